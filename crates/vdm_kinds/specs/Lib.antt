@@ -1,0 +1,3 @@
+pub mod FaultRow
+pub mod RunFaults
+pub mod SpecKinds

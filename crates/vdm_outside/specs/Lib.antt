@@ -1,0 +1,9 @@
+pub mod Counts
+pub mod Failing
+pub mod Feed
+pub mod Reading
+pub mod StdSink
+pub mod StdSource
+pub mod Store
+pub mod SureFeed
+pub mod Writing
