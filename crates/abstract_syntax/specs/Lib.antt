@@ -1,0 +1,4 @@
+pub mod Expressions
+pub mod SameBy
+pub mod ValueCode
+pub mod Values
