@@ -1,0 +1,5 @@
+pub mod Threads
+pub mod Made
+pub mod Parts
+pub mod Wanted
+pub mod Laws
