@@ -1,0 +1,4 @@
+pub mod Adding
+pub mod Binding
+pub mod Levels
+pub mod Taking

@@ -1,0 +1,14 @@
+use Rattle.vdm_meaning.proofs.Worked.{one_and_one, one_and_one-over, too_few_units, one_too_many}
+use Rattle.vdm_meaning.proofs.laws.worked_sums.Goals as goal
+
+pub returns-clause-ends : goal.returns-clause-ends
+returns-clause-ends c = one_and_one
+
+pub returns-clause-stops : goal.returns-clause-stops
+returns-clause-stops c = one_and_one-over
+
+pub returns-clause-too_few_units : goal.returns-clause-too_few_units
+returns-clause-too_few_units c = too_few_units
+
+pub returns-clause-overflows : goal.returns-clause-overflows
+returns-clause-overflows c = one_too_many

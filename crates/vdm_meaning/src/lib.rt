@@ -1,0 +1,9 @@
+//! What the language means: what each node does, the code of main, and which lists of entries are runs. Definitions and laws alone.
+#![tactic(auto)]
+
+mod laws;
+
+pub use laws::{
+    a_finished_run_exists, a_finished_run_has_one_end, fronts_of_runs_are_runs,
+    nothing_stands_behind_an_end, one_run, worked_sums,
+};
