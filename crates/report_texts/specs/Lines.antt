@@ -1,0 +1,53 @@
+-- The last line of a report. Each ends in a line feed.
+use Rattle.std.specs.Prelude.{◌≡◌, ℕ, List, [], ◌∷◌, ◌++◌, codes}
+use Rattle.std.specs.Fmt.{decimal}
+use Rattle.vdm_kinds.specs.declared.part.Part.{Part}
+use Rattle.vdm_kinds.specs.declared.part.Part.TheVariants.{Spec, Expr}
+use Rattle.vdm_kinds.specs.declared.place.Place.{Place}
+use Rattle.vdm_kinds.specs.declared.run_fault.RunFault.{RunFault}
+use Rattle.vdm_kinds.specs.declared.spec_fault.SpecFault.{SpecFault}
+use Rattle.vdm_kinds.specs.RunFaults.{run_number, run_name}
+use Rattle.vdm_kinds.specs.SpecKinds.{spec_number, spec_name}
+use Rattle.vdm_values.specs.declared.slot.Slot.{Slot}
+use Rattle.vdm_values.specs.declared.slot.Slot.TheVariants.{Unset, Held}
+use Rattle.run_journal.specs.declared.thread.Thread.{Thread}
+use Rattle.run_journal.specs.declared.thread.Thread.TheVariants.{Main, Of, Release, Clock}
+use Rattle.report_texts.specs.Values.{HasText}
+
+abbrev pub line : List ℕ → List ℕ
+line text = text ++ 10 ∷ []
+
+abbrev pub part_text : Part → List ℕ
+part_text Spec = codes "spec"
+part_text Expr = codes "expr"
+
+-- as `expr 1:41`: the part, the line and the column
+abbrev pub place_text : Place → List ℕ
+place_text place = part_text place.part ++ codes " " ++ decimal place.line ++ codes ":" ++ decimal place.column
+
+-- as `t3`, and `r3.0` for release 0 of object 3
+abbrev pub thread_text : Thread → List ℕ
+thread_text Main = codes "main"
+thread_text (Of object) = codes "t" ++ decimal object
+thread_text (Release object k) = codes "r" ++ decimal object ++ codes "." ++ decimal k
+thread_text Clock = codes "clock"
+
+abbrev pub usage_line : List ℕ
+usage_line = line (codes "usage: vdm check | vdm run EXPR [--lanes N] [--slice N] [--ticks N] [--steps N] [--entries N] [--log] | vdm make N")
+
+abbrev pub read_fault_line : List ℕ
+read_fault_line = line (codes "read fault")
+
+-- as `refused: 2 SyntaxFault at expr 1:1`
+abbrev pub refused_line : SpecFault → List ℕ
+refused_line fault = line (codes "refused: " ++ decimal (spec_number fault.kind) ++ codes " " ++ spec_name fault.kind ++ codes " at " ++ place_text fault.place)
+
+-- as `fault: 101 Overflow in main at expr 1:41`
+abbrev pub failed_line : RunFault → Thread → Place → List ℕ
+failed_line fault thread place =
+    line (codes "fault: " ++ decimal (run_number fault) ++ codes " " ++ run_name fault ++ codes " in " ++ thread_text thread ++ codes " at " ++ place_text place)
+
+-- as `result: 2`, and `result: ()` without a value
+abbrev pub IsResultLine : Slot → List ℕ → Type 0
+IsResultLine Unset text = text ≡ line (codes "result: ()")
+IsResultLine (Held v) text = (value : List ℕ) × HasText v value × (text ≡ line (codes "result: " ++ value))

@@ -1,0 +1,276 @@
+-- What the end that is meant, and what was written of it, say of a whole call.
+use Rattle.std.specs.Prelude.{◌≡◌, ℕ, ◌+◌, ◌≤◌, ◌⊎◌, List, [], length, take, drop, Some, IsSome}
+use Rattle.std.proofs.Common.{refl, sym, ap, ◌∙◌, subst, arith, inl, inr, length-take, take_all}
+use Rattle.std.proofs.lemmas.List.{drop_all}
+use Rattle.abstract_syntax.specs.Expressions.{ExprTree}
+use Rattle.run_journal.specs.declared.entry.Entry.{Entry}
+use Rattle.vdm_kinds.specs.declared.spec_fault.SpecFault.{SpecFault}
+use Rattle.vdm_grammar.specs.Texts.{HasTree, IsFirstRefusal, IsSpecification, spec_limit}
+use Rattle.vdm_grammar.proofs.Sums.{one_spelled}
+use Rattle.vdm_meaning.specs.Main.{step_limit}
+use Rattle.vdm_meaning.specs.Runs.{IsRun}
+use Rattle.report_texts.specs.Words.{IsRunCommand, IsNoCommand}
+use Rattle.vdm_cli.specs.declared.end.End.{End}
+use Rattle.vdm_cli.specs.declared.end.End.TheVariants.{Ended, Refused, Usage, Failed, ReadFault, WriteFault, OutOfMemory}
+use Rattle.vdm_cli.specs.Ends.{finish_in}
+use Rattle.vdm_cli.specs.Meant.{Outside, IsFaulty, WasRead, Runs, MeansRun, MeansUsage, Means}
+use Rattle.vdm_cli.specs.Written.{Wrote}
+use Rattle.vdm_cli.specs.Headline.{StandsFor, KeepsTexts, KeepsJournal}
+
+-- what was written stands for what is meant
+pub wrote_stands : (journal : List Entry) (meant : End) (sink : Outside) (end : End) → Wrote journal meant sink end → StandsFor end meant
+wrote_stands journal meant sink WriteFault w = tt
+wrote_stands journal meant sink OutOfMemory w = tt
+wrote_stands journal meant sink (Ended slot) w = w.1
+wrote_stands journal meant sink (Refused fault) w = w.1
+wrote_stands journal meant sink Usage w = w.1
+wrote_stands journal meant sink (Failed fault exit thread place) w = w.1
+wrote_stands journal meant sink ReadFault w = w.1
+
+-- an end stands for itself
+stands_for_itself : (end : End) → StandsFor end end
+stands_for_itself WriteFault = tt
+stands_for_itself OutOfMemory = tt
+stands_for_itself (Ended slot) = refl
+stands_for_itself (Refused fault) = refl
+stands_for_itself Usage = refl
+stands_for_itself (Failed fault exit thread place) = refl
+stands_for_itself ReadFault = refl
+
+-- words that are no command mean usage
+means_usage : (words : List (List ℕ)) (source : Outside) (journal : List Entry) (meant : End) → IsNoCommand words → Means words source journal meant → (meant ≡ Usage) × MeansUsage words source journal
+means_usage words source journal Usage none m = (refl, m)
+means_usage words source journal WriteFault none m = absurd (none m.0 m.1)
+means_usage words source journal OutOfMemory none m = absurd (none m.0 m.1)
+means_usage words source journal (Ended slot) none m = absurd (none m.0 m.1)
+means_usage words source journal (Refused fault) none m = absurd (none m.0 m.1)
+means_usage words source journal (Failed fault exit thread place) none m = absurd (none m.0 m.1)
+means_usage words source journal ReadFault none m = absurd (none m.0 m.1)
+
+same_text : (words : List (List ℕ)) (a b : List ℕ) → IsRunCommand words a → IsRunCommand words b → a ≡ b
+same_text words a b p q = cc
+
+-- words that are a command to run mean a run of its text
+means_run : (words : List (List ℕ)) (source : Outside) (journal : List Entry) (meant : End) (text : List ℕ) → IsRunCommand words text → Means words source journal meant → MeansRun source text journal meant
+means_run words source journal Usage text p m = absurd (m.no_command text p)
+means_run words source journal WriteFault text p m = subst (λ t. MeansRun source t journal WriteFault) (same_text words m.0 text m.1 p) m.2
+means_run words source journal OutOfMemory text p m = subst (λ t. MeansRun source t journal OutOfMemory) (same_text words m.0 text m.1 p) m.2
+means_run words source journal (Ended slot) text p m = subst (λ t. MeansRun source t journal (Ended slot)) (same_text words m.0 text m.1 p) m.2
+means_run words source journal (Refused fault) text p m = subst (λ t. MeansRun source t journal (Refused fault)) (same_text words m.0 text m.1 p) m.2
+means_run words source journal (Failed fault exit thread place) text p m = subst (λ t. MeansRun source t journal (Failed fault exit thread place)) (same_text words m.0 text m.1 p) m.2
+means_run words source journal ReadFault text p m = subst (λ t. MeansRun source t journal ReadFault) (same_text words m.0 text m.1 p) m.2
+
+-- a text has one tree
+same_tree : (text : List ℕ) (a b : ExprTree) → HasTree text a → HasTree text b → a ≡ b
+same_tree text a b h k = let e = h.spelled in let f = k.spelled in one_spelled a b h.grouped k.grouped cc
+
+-- two texts that are run have no refusal, and two that are not have one
+not_both : (spec text : List ℕ) (fault : SpecFault) (tree : ExprTree) → IsFirstRefusal spec text fault → IsSpecification spec → HasTree text tree → ⊥
+not_both spec text fault tree (inl r) s h = r.0 s
+not_both spec text fault tree (inr r) s h = r.1 tree h
+
+same_refusal : (spec text : List ℕ) (a b : SpecFault) → IsFirstRefusal spec text a → IsFirstRefusal spec text b → a ≡ b
+same_refusal spec text a b (inl r) (inl q) = r.1 ∙ sym q.1
+same_refusal spec text a b (inl r) (inr q) = absurd (r.0 q.0)
+same_refusal spec text a b (inr r) (inl q) = absurd (q.0 r.0)
+same_refusal spec text a b (inr r) (inr q) = r.2 ∙ sym q.2
+
+-- what was read of bytes that are told is one text
+same_read : (source : Outside) (told a b : List ℕ) → source.before ≡ Some told → WasRead source a → WasRead source b → a ≡ b
+same_read source told a b e p q = (p told e).0 ∙ sym ((q told e).0)
+
+-- a specification is short, so that it was read to its end
+short_is_all : (n : ℕ) (xs : List ℕ) → length xs ≤ n → (take (n + 1) xs ≡ xs) × (drop (n + 1) xs ≡ [])
+short_is_all n xs h = (take_all (n + 1) xs (omega arith), drop_all (n + 1) xs (omega arith))
+
+short_front : (n : ℕ) (xs : List ℕ) → length (take (n + 1) xs) ≤ n → length xs ≤ n
+short_front n xs h = let e = length-take (n + 1) xs in omega arith
+
+read_to_end : (source : Outside) (spec told : List ℕ) → source.before ≡ Some told → WasRead source spec → IsSpecification spec → (source.after ≡ Some []) × IsSpecification told
+read_to_end source spec told e r s =
+    let first = r told e in
+    let short : length (take (spec_limit + 1) told) ≤ spec_limit = subst (λ l. length l ≤ spec_limit) first.0 s.short in
+    let all = short_is_all spec_limit told (short_front spec_limit told short) in
+    (first.1 ∙ ap Some all.1, subst IsSpecification (first.0 ∙ all.0) s)
+
+-- which ends are those of a run
+ran : (source : Outside) (text : List ℕ) (journal : List Entry) (meant : End) → IsSome (finish_in meant) → MeansRun source text journal meant → (spec : List ℕ) × (WasRead source spec × Runs spec text journal)
+ran source text journal (Ended slot) f m = (m.1.0, (m.1.1, m.1.2.0))
+ran source text journal (Failed fault exit thread place) f m = (m.1.0, (m.1.1, m.1.2.0))
+ran source text journal WriteFault f m = cc f
+ran source text journal OutOfMemory f m = cc f
+ran source text journal (Refused fault) f m = cc f
+ran source text journal Usage f m = cc f
+ran source text journal ReadFault f m = cc f
+
+-- a specification that is told was read whole
+read_whole : (source : Outside) (spec told : List ℕ) → source.before ≡ Some told → WasRead source spec → IsSpecification told → spec ≡ told
+read_whole source spec told e r s = (r told e).0 ∙ (short_is_all spec_limit told s.short).0
+
+-- an end that want of memory means may stand for any
+stands_again : (end other : End) → StandsFor end OutOfMemory → StandsFor end other
+stands_again WriteFault other s = tt
+stands_again OutOfMemory other s = tt
+stands_again (Ended slot) other s = cc s
+stands_again (Refused fault) other s = cc s
+stands_again Usage other s = cc s
+stands_again (Failed fault exit thread place) other s = cc s
+stands_again ReadFault other s = cc s
+
+-- an end of a run is the one that is meant
+finished_is : (end meant : End) → IsSome (finish_in end) → StandsFor end meant → end ≡ meant
+finished_is (Ended slot) meant f s = s
+finished_is (Failed fault exit thread place) meant f s = s
+finished_is WriteFault meant f s = cc f
+finished_is OutOfMemory meant f s = cc f
+finished_is (Refused fault) meant f s = cc f
+finished_is Usage meant f s = cc f
+finished_is ReadFault meant f s = cc f
+
+-- what stands for an end of a run
+stands_for_finish : (end meant : End) → IsSome (finish_in meant) → StandsFor end meant → IsSome (finish_in end) ⊎ ((end ≡ WriteFault) ⊎ (end ≡ OutOfMemory))
+stands_for_finish WriteFault meant f s = inr (inl refl)
+stands_for_finish OutOfMemory meant f s = inr (inr refl)
+stands_for_finish (Ended slot) meant f s = inl refl
+stands_for_finish (Failed fault exit thread place) meant f s = inl refl
+stands_for_finish (Refused fault) meant f s = inl (subst (λ e. IsSome (finish_in e)) (sym s) f)
+stands_for_finish Usage meant f s = inl (subst (λ e. IsSome (finish_in e)) (sym s) f)
+stands_for_finish ReadFault meant f s = inl (subst (λ e. IsSome (finish_in e)) (sym s) f)
+
+-- want of memory stands for nothing else
+stands_for_memory : (end : End) → StandsFor end OutOfMemory → IsSome (finish_in end) ⊎ ((end ≡ WriteFault) ⊎ (end ≡ OutOfMemory))
+stands_for_memory WriteFault s = inr (inl refl)
+stands_for_memory OutOfMemory s = inr (inr refl)
+stands_for_memory (Ended slot) s = cc s
+stands_for_memory (Refused fault) s = cc s
+stands_for_memory Usage s = cc s
+stands_for_memory (Failed fault exit thread place) s = cc s
+stands_for_memory ReadFault s = cc s
+
+-- the text of a run's end
+finished_text : (words : List (List ℕ)) (source : Outside) (journal : List Entry) (meant : End) → IsSome (finish_in meant) → Means words source journal meant → (text : List ℕ) × (IsRunCommand words text × MeansRun source text journal meant)
+finished_text words source journal (Ended slot) f m = (m.0, (m.1, m.2))
+finished_text words source journal (Failed fault exit thread place) f m = (m.0, (m.1, m.2))
+finished_text words source journal WriteFault f m = cc f
+finished_text words source journal OutOfMemory f m = cc f
+finished_text words source journal (Refused fault) f m = cc f
+finished_text words source journal Usage f m = cc f
+finished_text words source journal ReadFault f m = cc f
+
+-- where the texts have a refusal, it or want of memory is meant
+refusal_meant : (source : Outside) (text spec told : List ℕ) (journal : List Entry) (fault : SpecFault) (meant : End) → (IsFaulty source → ⊥) → source.before ≡ Some told → WasRead source spec → IsFirstRefusal spec text fault → MeansRun source text journal meant → (meant ≡ Refused fault) ⊎ (meant ≡ OutOfMemory)
+refusal_meant source text spec told journal fault (Ended slot) calm e r f m =
+    let same = same_read source told m.1.0 spec e m.1.1 r in
+    let runs = subst (λ s. Runs s text journal) same m.1.2.0 in
+    absurd (not_both spec text fault runs.tree f runs.specification runs.expression)
+refusal_meant source text spec told journal fault (Failed g exit thread place) calm e r f m =
+    let same = same_read source told m.1.0 spec e m.1.1 r in
+    let runs = subst (λ s. Runs s text journal) same m.1.2.0 in
+    absurd (not_both spec text fault runs.tree f runs.specification runs.expression)
+refusal_meant source text spec told journal fault (Refused g) calm e r f m =
+    let same = same_read source told m.1.0 spec e m.1.1 r in
+    inl (ap Refused (same_refusal spec text g fault (subst (λ s. IsFirstRefusal s text g) same m.1.2.0) f))
+refusal_meant source text spec told journal fault OutOfMemory calm e r f m = inr refl
+refusal_meant source text spec told journal fault ReadFault calm e r f m = absurd (calm m.0)
+refusal_meant source text spec told journal fault WriteFault calm e r f m = absurd m.1.2
+refusal_meant source text spec told journal fault Usage calm e r f m = absurd m.1.2
+
+-- where both texts are accepted, an end of a run or want of memory is meant
+run_meant : (source : Outside) (text told : List ℕ) (journal : List Entry) (tree : ExprTree) (meant : End) → (IsFaulty source → ⊥) → source.before ≡ Some told → IsSpecification told → HasTree text tree → MeansRun source text journal meant → IsSome (finish_in meant) ⊎ (meant ≡ OutOfMemory)
+run_meant source text told journal tree (Ended slot) calm e s h m = inl refl
+run_meant source text told journal tree (Failed g exit thread place) calm e s h m = inl refl
+run_meant source text told journal tree (Refused g) calm e s h m =
+    let same = read_whole source m.1.0 told e m.1.1 s in
+    absurd (not_both told text g tree (subst (λ x. IsFirstRefusal x text g) same m.1.2.0) s h)
+run_meant source text told journal tree OutOfMemory calm e s h m = inr refl
+run_meant source text told journal tree ReadFault calm e s h m = absurd (calm m.0)
+run_meant source text told journal tree WriteFault calm e s h m = absurd m.1.2
+run_meant source text told journal tree Usage calm e s h m = absurd m.1.2
+
+pub keeps_texts : (words : List (List ℕ)) (source : Outside) (journal : List Entry) (sink : Outside) (meant end : End) → Means words source journal meant → Wrote journal meant sink end → KeepsTexts words source end
+keeps_texts words source journal sink meant end m w =
+    let stands = wrote_stands journal meant sink end w in
+    record {
+      refused = λ fault e.
+          let r : Refused fault ≡ meant = subst (λ x. StandsFor x meant) e stands in
+          let n = subst (Means words source journal) (sym r) m in
+          (n.0, n.2.1.0, n.1, n.2.1.1, n.2.1.2.0);
+      refuses = λ text spec told fault p calm e r f.
+          elim (refusal_meant source text spec told journal fault meant calm e r f (means_run words source journal meant text p m)) [
+            | inl is ↦ subst (StandsFor end) is stands
+            | inr is ↦ stands_again end (Refused fault) (subst (StandsFor end) is stands)
+          ];
+      finished = λ f told e.
+          let is = finished_is end meant f stands in
+          let g = subst (λ x. IsSome (finish_in x)) is f in
+          let t = finished_text words source journal meant g m in
+          let runs = ran source t.0 journal meant g t.1.1 in
+          let all = read_to_end source runs.0 told e runs.1.0 runs.1.1.specification in
+          (all.0, all.1, (t.0, runs.1.1.tree, t.1.0, runs.1.1.expression));
+      finishes = λ text told tree p calm e s h.
+          elim (run_meant source text told journal tree meant calm e s h (means_run words source journal meant text p m)) [
+            | inl f ↦ stands_for_finish end meant f stands
+            | inr is ↦ stands_for_memory end (subst (StandsFor end) is stands)
+          ];
+    }
+
+-- a journal of what is meant: none, or a run of the two texts that were read
+journal_of : (source : Outside) (text : List ℕ) (journal : List Entry) (meant : End) → MeansRun source text journal meant → (journal ≡ []) ⊎ ((spec : List ℕ) × (WasRead source spec × Runs spec text journal))
+journal_of source text journal (Ended slot) m = inr (m.1.0, (m.1.1, m.1.2.0))
+journal_of source text journal (Failed fault exit thread place) m = inr (m.1.0, (m.1.1, m.1.2.0))
+journal_of source text journal (Refused fault) m = inl m.1.2.1
+journal_of source text journal OutOfMemory m = elim m.1 [ inl none ↦ inl none | inr r ↦ inr (r.0, (r.1, r.2)) ]
+journal_of source text journal ReadFault m = inl m.1
+journal_of source text journal WriteFault m = absurd m.1.2
+journal_of source text journal Usage m = absurd m.1.2
+
+-- the empty journal is a run of anything
+none_is_run : (journal : List Entry) (tree : ExprTree) → journal ≡ [] → IsRun tree step_limit journal
+none_is_run journal tree e = subst (IsRun tree step_limit) (sym e) tt
+
+-- each end that means no run has an empty journal
+no_entries : (words : List (List ℕ)) (source : Outside) (journal : List Entry) (meant : End) → Means words source journal meant → (journal ≡ []) ⊎ ((text : List ℕ) × (IsRunCommand words text × ((spec : List ℕ) × (WasRead source spec × Runs spec text journal))))
+no_entries words source journal Usage m = inl m.empty
+no_entries words source journal WriteFault m = absurd m.2.1.2
+no_entries words source journal OutOfMemory m = elim (journal_of source m.0 journal OutOfMemory m.2) [ inl none ↦ inl none | inr r ↦ inr (m.0, (m.1, r)) ]
+no_entries words source journal (Ended slot) m = elim (journal_of source m.0 journal (Ended slot) m.2) [ inl none ↦ inl none | inr r ↦ inr (m.0, (m.1, r)) ]
+no_entries words source journal (Refused fault) m = inl m.2.1.2.1
+no_entries words source journal (Failed fault exit thread place) m = elim (journal_of source m.0 journal (Failed fault exit thread place) m.2) [ inl none ↦ inl none | inr r ↦ inr (m.0, (m.1, r)) ]
+no_entries words source journal ReadFault m = inl m.2.1
+
+journal_is_kept : (words : List (List ℕ)) (source : Outside) (journal : List Entry) (sink : Outside) (meant end : End) → Means words source journal meant → Wrote journal meant sink end → KeepsJournal words source journal end
+journal_is_kept words source journal sink meant end m w =
+    let stands = wrote_stands journal meant sink end w in
+    let entries = no_entries words source journal meant m in
+    record {
+      run = λ text tree p h.
+          elim entries [
+            | inl none ↦ none_is_run journal tree none
+            | inr r ↦ subst (λ t. IsRun t step_limit journal) (same_tree text r.1.1.1.1.tree tree (subst (λ t. HasTree t r.1.1.1.1.tree) (same_text words r.0 text r.1.0 p) r.1.1.1.1.expression) h) r.1.1.1.1.run
+          ];
+      no_command = λ none. (means_usage words source journal meant none m).1.empty;
+      no_tree = λ text p none.
+          elim entries [
+            | inl empty ↦ empty
+            | inr r ↦ absurd (none r.1.1.1.1.tree (subst (λ t. HasTree t r.1.1.1.1.tree) (same_text words r.0 text r.1.0 p) r.1.1.1.1.expression))
+          ];
+      unread = λ told e more.
+          elim entries [
+            | inl empty ↦ empty
+            | inr r ↦ absurd (more (read_to_end source r.1.1.0 told e r.1.1.1.0 r.1.1.1.1.specification).0)
+          ];
+      usage = λ e.
+          let r : Usage ≡ meant = subst (λ x. StandsFor x meant) e stands in
+          (subst (Means words source journal) (sym r) m).empty;
+      refused = λ fault e.
+          let r : Refused fault ≡ meant = subst (λ x. StandsFor x meant) e stands in
+          (subst (Means words source journal) (sym r) m).2.1.2.1;
+      read_fault = λ e.
+          let r : ReadFault ≡ meant = subst (λ x. StandsFor x meant) e stands in
+          (subst (Means words source journal) (sym r) m).2.1;
+    }
+
+-- the same of the journal that is given back, which is the one that is meant
+pub keeps_journal : (words : List (List ℕ)) (source : Outside) (journal given : List Entry) (sink : Outside) (meant end : End) → given ≡ journal → Means words source journal meant → Wrote journal meant sink end → KeepsJournal words source given end
+keeps_journal words source journal given sink meant end same m w =
+    subst (λ j. KeepsJournal words source j end) (sym same) (journal_is_kept words source journal sink meant end m w)

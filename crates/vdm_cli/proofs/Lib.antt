@@ -1,0 +1,2 @@
+pub mod SumRuns
+pub mod Keeping

@@ -1,0 +1,68 @@
+-- What a whole call of the program keeps, clause by clause.
+use Rattle.std.specs.Prelude.{◌≡◌, ◌≢◌, ℕ, ◌+◌, ◌≤◌, ◌⊎◌, Bool, false, List, [], Option, Some, IsSome}
+use Rattle.abstract_syntax.specs.Expressions.{ExprTree}
+use Rattle.run_journal.specs.declared.entry.Entry.{Entry}
+use Rattle.vdm_kinds.specs.declared.spec_fault.SpecFault.{SpecFault}
+use Rattle.vdm_grammar.specs.Texts.{HasTree, HasNoTree, IsFirstRefusal, IsSpecification, spec_limit}
+use Rattle.vdm_meaning.specs.Main.{step_limit}
+use Rattle.vdm_meaning.specs.Runs.{IsRun}
+use Rattle.vdm_outside.specs.Reading.{ConsumesAtMost}
+use Rattle.report_texts.specs.Words.{IsRunCommand, IsNoCommand}
+use Rattle.vdm_cli.specs.declared.end.End.{End}
+use Rattle.vdm_cli.specs.declared.end.End.TheVariants.{Refused, Usage, ReadFault, WriteFault, OutOfMemory}
+use Rattle.vdm_cli.specs.Ends.{finish_in}
+use Rattle.vdm_cli.specs.Meant.{Outside, IsCalm, IsFaulty, IsUntouched, WasRead, Means}
+use Rattle.vdm_cli.specs.Written.{Wrote}
+
+-- a write fault and want of memory may stand in place of the end that is meant
+abbrev pub StandsFor : End → End → Type 0
+StandsFor WriteFault meant = Unit {0}
+StandsFor OutOfMemory meant = Unit {0}
+StandsFor end meant = end ≡ meant
+
+-- Words: usage exactly where they are no command; then nothing is read. No command asks for the log so far.
+pub record KeepsWords (words : List (List ℕ)) (source : Outside) (journal : List Entry) (log : Bool) (end : End) : Type 0 where
+  pub usage : end ≡ Usage → IsNoCommand words
+  pub no_command : IsNoCommand words → StandsFor end Usage × IsUntouched source × IsCalm source × (journal ≡ [])
+  pub no_log : log ≡ false
+
+-- Reading: at most one byte past the limit is taken, in at most as many reads.
+pub record KeepsReading {S : Type 0} (left : S → Option (List ℕ)) (reads : S → ℕ) (before after : S) : Type 0 where
+  pub taken : ConsumesAtMost (spec_limit + 1) (left before) (left after)
+  pub turns : reads after ≤ reads before + spec_limit + 1
+
+-- Texts: refused only where the source was read to its end or one byte past its limit, and there exactly with the first
+-- refusal; a run ends only where the source was read to its end and both texts are accepted, and there exactly.
+pub record KeepsTexts (words : List (List ℕ)) (source : Outside) (end : End) : Type 0 where
+  pub refused : (fault : SpecFault) → end ≡ Refused fault → (text spec : List ℕ) × IsRunCommand words text × WasRead source spec × IsFirstRefusal spec text fault
+  pub refuses : (text spec told : List ℕ) (fault : SpecFault) → IsRunCommand words text → (IsFaulty source → ⊥) → source.before ≡ Some told → WasRead source spec → IsFirstRefusal spec text fault → StandsFor end (Refused fault)
+  pub finished : IsSome (finish_in end) → (told : List ℕ) → source.before ≡ Some told → (source.after ≡ Some []) × IsSpecification told × ((text : List ℕ) × (tree : ExprTree) × IsRunCommand words text × HasTree text tree)
+  pub finishes : (text told : List ℕ) (tree : ExprTree) → IsRunCommand words text → (IsFaulty source → ⊥) → source.before ≡ Some told → IsSpecification told → HasTree text tree → IsSome (finish_in end) ⊎ ((end ≡ WriteFault) ⊎ (end ≡ OutOfMemory))
+
+-- Journal: whatever the end is, a run of the expression's tree; empty under usage, a refusal and a read fault, where the
+-- words or the text are none, and wherever the source was not read to its end.
+pub record KeepsJournal (words : List (List ℕ)) (source : Outside) (journal : List Entry) (end : End) : Type 0 where
+  pub run : (text : List ℕ) (tree : ExprTree) → IsRunCommand words text → HasTree text tree → IsRun tree step_limit journal
+  pub no_command : IsNoCommand words → journal ≡ []
+  pub no_tree : (text : List ℕ) → IsRunCommand words text → HasNoTree text → journal ≡ []
+  pub unread : (told : List ℕ) → source.before ≡ Some told → source.after ≢ Some [] → journal ≡ []
+  pub usage : end ≡ Usage → journal ≡ []
+  pub refused : (fault : SpecFault) → end ≡ Refused fault → journal ≡ []
+  pub read_fault : end ≡ ReadFault → journal ≡ []
+
+-- End: that which is meant, or a write fault or want of memory in its place; a run's end is the one that its journal has.
+abbrev pub KeepsEnd : List (List ℕ) → Outside → List Entry → End → Type 0
+KeepsEnd words source journal end = (meant : End) × Means words source journal meant × StandsFor end meant
+
+-- Output: the sink got the output of the journal and of the last line of the end that is meant, a part of it under a
+-- write fault, and nothing where memory was wanting.
+abbrev pub KeepsOutput : List (List ℕ) → Outside → List Entry → Outside → End → Type 0
+KeepsOutput words source journal sink end = (meant : End) × Means words source journal meant × Wrote journal meant sink end
+
+-- Causes: a read fault only where the source's count rose, a write fault only where the sink's did; where the source's
+-- rose the end is a read fault, or what stands for it, and where the sink's rose it is a write fault.
+pub record KeepsCauses (source sink : Outside) (end : End) : Type 0 where
+  pub read_fault : end ≡ ReadFault → IsFaulty source
+  pub write_fault : end ≡ WriteFault → IsFaulty sink
+  pub of_source : IsCalm source ⊎ (IsFaulty source × StandsFor end ReadFault)
+  pub of_sink : IsCalm sink ⊎ (IsFaulty sink × (end ≡ WriteFault))

@@ -1,0 +1,78 @@
+-- The end that a call means, where its report is left aside, each with its cause.
+use Rattle.std.specs.Prelude.{◌≡◌, ℕ, ◌+◌, ◌⊎◌, List, [], Option, Some}
+use Rattle.abstract_syntax.specs.Expressions.{ExprTree}
+use Rattle.run_journal.specs.declared.entry.Entry.{Entry}
+use Rattle.vdm_grammar.specs.Texts.{IsSpecification, HasTree, IsFirstRefusal, spec_limit}
+use Rattle.vdm_meaning.specs.Main.{step_limit}
+use Rattle.vdm_meaning.specs.Runs.{Finish, ended, failed, IsRun, finish_of}
+use Rattle.vdm_outside.specs.Counts.{Rose}
+use Rattle.vdm_outside.specs.Reading.{AreFirst}
+use Rattle.report_texts.specs.Words.{IsRunCommand, IsNoCommand}
+use Rattle.vdm_cli.specs.declared.end.End.{End}
+use Rattle.vdm_cli.specs.declared.end.End.TheVariants.{Ended, Refused, Usage, Failed, ReadFault, OutOfMemory}
+
+-- A source or a sink before and after a call: the bytes that it has left or holds, where it tells them, and its count
+-- of faults.
+pub record Outside : Type 0 where
+  pub before : Option (List ℕ)
+  pub after : Option (List ℕ)
+  pub faults_before : ℕ
+  pub faults_after : ℕ
+
+-- what `told` and `faults` say of it before and after
+abbrev pub around : {S : Type 0} → (S → Option (List ℕ)) → (S → ℕ) → S → S → Outside
+around told faults before after =
+    record { before = told before; after = told after; faults_before = faults before; faults_after = faults after }
+
+-- no call of it failed
+abbrev pub IsCalm : Outside → Type 0
+IsCalm o = o.faults_after ≡ o.faults_before
+
+-- a call of it failed
+abbrev pub IsFaulty : Outside → Type 0
+IsFaulty o = Rose o.faults_before o.faults_after
+
+-- nothing was taken from it or put into it
+abbrev pub IsUntouched : Outside → Type 0
+IsUntouched o = o.after ≡ o.before
+
+-- these bytes were read: all that was told, or one byte past the limit
+abbrev pub WasRead : Outside → List ℕ → Type 0
+WasRead source bytes = AreFirst (spec_limit + 1) source.before source.after bytes
+
+-- the journal is a run of the expression under an accepted specification
+pub record Runs (spec text : List ℕ) (journal : List Entry) : Type 0 where
+  pub tree : ExprTree
+  pub specification : IsSpecification spec
+  pub expression : HasTree text tree
+  pub run : IsRun tree step_limit journal
+
+-- a run that ends so
+abbrev pub Finishes : List ℕ → List ℕ → List Entry → Finish → Type 0
+Finishes spec text journal finish = Runs spec text journal × (finish_of journal ≡ Some finish)
+
+-- the end that is meant of the two texts
+abbrev pub MeansTexts : List ℕ → List ℕ → List Entry → End → Type 0
+MeansTexts spec text journal (Ended slot) = Finishes spec text journal (ended slot)
+MeansTexts spec text journal (Failed fault exit thread place) = Finishes spec text journal (failed fault exit thread place)
+MeansTexts spec text journal (Refused fault) = IsFirstRefusal spec text fault × (journal ≡ [])
+MeansTexts spec text journal OutOfMemory = (journal ≡ []) ⊎ Runs spec text journal
+MeansTexts spec text journal _ = ⊥
+
+-- the end that is meant of a command that runs an expression
+abbrev pub MeansRun : Outside → List ℕ → List Entry → End → Type 0
+MeansRun source text journal ReadFault = IsFaulty source × (journal ≡ [])
+MeansRun source text journal OutOfMemory = IsCalm source × ((journal ≡ []) ⊎ ((spec : List ℕ) × WasRead source spec × Runs spec text journal))
+MeansRun source text journal end = IsCalm source × ((spec : List ℕ) × WasRead source spec × MeansTexts spec text journal end)
+
+-- faulty words read nothing
+pub record MeansUsage (words : List (List ℕ)) (source : Outside) (journal : List Entry) : Type 0 where
+  pub no_command : IsNoCommand words
+  pub untouched : IsUntouched source
+  pub calm : IsCalm source
+  pub empty : journal ≡ []
+
+-- the end that is meant
+abbrev pub Means : List (List ℕ) → Outside → List Entry → End → Type 0
+Means words source journal Usage = MeansUsage words source journal
+Means words source journal end = (text : List ℕ) × IsRunCommand words text × MeansRun source text journal end

@@ -1,0 +1,21 @@
+-- What is written of the report of an end.
+use Rattle.std.specs.Prelude.{◌≡◌, ℕ, List}
+use Rattle.std.specs.Io.KnownBytes.{Appends}
+use Rattle.run_journal.specs.declared.entry.Entry.{Entry}
+use Rattle.vdm_outside.specs.Writing.{AppendsPart}
+use Rattle.report_texts.specs.Output.{output}
+use Rattle.vdm_cli.specs.declared.end.End.{End}
+use Rattle.vdm_cli.specs.declared.end.End.TheVariants.{WriteFault, OutOfMemory}
+use Rattle.vdm_cli.specs.Ends.{IsLastLine}
+use Rattle.vdm_cli.specs.Meant.{Outside, IsCalm, IsFaulty, IsUntouched}
+
+-- the output of a journal and the end that is meant
+abbrev pub IsOutput : List Entry → End → List ℕ → Type 0
+IsOutput journal meant bytes = (last : List ℕ) × IsLastLine meant last × (bytes ≡ output journal last)
+
+-- What a call wrote of the output, and how it ends then: all of it, a part of it under a write fault, or nothing where
+-- memory was wanting.
+abbrev pub Wrote : List Entry → End → Outside → End → Type 0
+Wrote journal meant sink WriteFault = IsFaulty sink × ((bytes : List ℕ) × IsOutput journal meant bytes × AppendsPart sink.before sink.after bytes)
+Wrote journal meant sink OutOfMemory = IsCalm sink × IsUntouched sink
+Wrote journal meant sink end = IsCalm sink × (end ≡ meant) × ((bytes : List ℕ) × IsOutput journal meant bytes × Appends sink.before sink.after bytes)
