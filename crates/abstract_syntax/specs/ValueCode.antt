@@ -2,7 +2,7 @@
 use Rattle.std.specs.Prelude.{◌≡◌, ℕ, ℤ, pos, negsuc, Bool, true, false, refl}
 use Rattle.std.specs.Coded.{Coded, code_by}
 use Rattle.std.proofs.Common.{ap, zero, suc}
-use Rattle.vdm_kinds.specs.declared.names.Name.{Name}
+use Rattle.vdm_kinds.specs.declared.name.Name.{Name}
 use Rattle.abstract_syntax.specs.Values.{ValueTree, ValueTrees, PairTrees, nil, boolean, number, character, quote, token, tuple, record_of, sequence, set_of, map_of, object, no_values, one_value, no_pairs, one_pair}
 use base.Stored.{Gv, gnil, gnum, gcons}
 

@@ -1,7 +1,7 @@
 -- Values as pure trees: what a clause sees of a value, with no box and no vector in it.
 use Rattle.std.specs.Prelude.{◌≡◌, ℕ, ◌+◌, ℤ, Bool, List, [], ◌∷◌, refl}
 use Rattle.std.proofs.Common.{ap}
-use Rattle.vdm_kinds.specs.declared.names.Name.{Name}
+use Rattle.vdm_kinds.specs.declared.name.Name.{Name}
 
 mutual
   -- the twelve kinds; a record has its class, its type's name and its fields, an object its number and its class

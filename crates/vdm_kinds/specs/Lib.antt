@@ -1,3 +1,4 @@
 pub mod FaultRow
+pub mod NameList
 pub mod RunFaults
 pub mod SpecKinds

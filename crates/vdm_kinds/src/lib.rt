@@ -1,9 +1,13 @@
 //! Places, names, faults and limits: the small kinds that every layer speaks of.
 #![tactic(auto)]
 
+mod access;
 mod halt;
+mod laws;
 mod limits;
-mod names;
+mod member;
+mod name;
+mod name_list;
 mod operator;
 mod part;
 mod place;
@@ -11,9 +15,13 @@ mod run_fault;
 mod spec_fault;
 mod spec_kind;
 
+pub use access::{Access, Level};
 pub use halt::{Halt, OutOfMemory};
+pub use laws::{names_are_found, no_name_twice};
 pub use limits::Limits;
-pub use names::{Name, OpRef, VarRef};
+pub use member::{OpRef, VarRef};
+pub use name::Name;
+pub use name_list::Names;
 pub use operator::Operator;
 pub use part::Part;
 pub use place::Place;

@@ -1,1 +1,3 @@
+pub mod ClassView
+pub mod StmtView
 pub mod View

@@ -1,8 +1,6 @@
-// Names as numbers, and the members that they name.
+// The members of classes, by the names of class and member.
 
-/// A name, as its place in the list of names.
-#[derive(Clone, Copy, Debug, PartialEq, Eq)]
-pub struct Name(pub u32);
+use crate::name::Name;
 
 /// An operation or function: the class that defines it, its name, and how many parameters it has.
 #[derive(Clone, Copy, Debug, PartialEq, Eq)]
