@@ -1,3 +1,13 @@
-pub mod Sums
-pub mod Depths
+pub mod Fronts
+pub mod Marks
+pub mod Names
+pub mod SumsRead
+pub mod StatementsRead
+pub mod StatementsWritten
+pub mod DefinitionsRead
+pub mod DefinitionsWritten
+pub mod ClassesRead
+pub mod ClassesWritten
+pub mod Whole
+pub mod Texts
 pub mod Refusals

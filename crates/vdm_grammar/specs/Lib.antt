@@ -1,6 +1,11 @@
 pub mod Positions
+pub mod Marks
+pub mod Words
+pub mod Lexemes
 pub mod Tokens
 pub mod Spelling
+pub mod Grammar
+pub mod Binding
+pub mod Reading
 pub mod Texts
-pub mod Acceptance
-pub mod Sums
+pub mod WorkedTexts

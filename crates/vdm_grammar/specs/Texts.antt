@@ -1,14 +1,19 @@
 -- Which texts are accepted, and what they are.
-use Rattle.std.specs.Prelude.{◌≡◌, ℕ, ◌≤◌, ◌⊎◌, List, length, Some, true}
-use Rattle.std.specs.List.{list_all}
+use Rattle.std.specs.Prelude.{◌≡◌, ℕ, ◌≤◌, ◌⊎◌, true, List, [], length, Some}
+use Rattle.vdm_kinds.specs.NameList.{built_in_names}
 use Rattle.vdm_kinds.specs.declared.part.Part.{Part}
 use Rattle.vdm_kinds.specs.declared.part.Part.TheVariants.{Spec, Expr}
 use Rattle.vdm_kinds.specs.declared.spec_fault.SpecFault.{SpecFault}
 use Rattle.vdm_kinds.specs.declared.spec_kind.SpecKind.TheVariants.{SyntaxFault}
 use Rattle.abstract_syntax.specs.Expressions.{ExprTree}
+use Rattle.abstract_syntax.specs.Classes.{SpecTree}
+use Rattle.vdm_grammar.specs.declared.token.Token.{Token}
+use Rattle.vdm_grammar.specs.Binding.{is_bound, is_over}
+use Rattle.vdm_grammar.specs.Grammar.{IsGrammatical, IsSum, IsShallow, expr_depth, depth_limit}
+use Rattle.vdm_grammar.specs.Lexemes.{Lexeme, lexemes_of}
 use Rattle.vdm_grammar.specs.Positions.{start_of}
-use Rattle.vdm_grammar.specs.Tokens.{is_blank, tokens_of}
-use Rattle.vdm_grammar.specs.Spelling.{spelling, IsSum, depth}
+use Rattle.vdm_grammar.specs.Spelling.{AreTokens, spec_spelling, expr_spelling}
+use Rattle.vdm_grammar.specs.Tokens.{names_behind, tokens_with}
 
 -- the most bytes of a specification, 4 MiB, and of an expression, 64 KiB
 abbrev pub spec_limit : ℕ
@@ -17,32 +22,65 @@ spec_limit = 4194304
 abbrev pub expr_limit : ℕ
 expr_limit = 65536
 
--- the most nodes that may be nested
-abbrev pub depth_limit : ℕ
-depth_limit = 200
+-- the tokens are those of a specification: the tree is written so, is one of the grammar, and is not too deep
+pub record IsSpecOf (tokens : List Token) (tree : SpecTree) : Type 0 where
+  pub written : AreTokens tokens (spec_spelling tree)
+  pub grammatical : IsGrammatical tree
+  pub shallow : IsShallow tree
 
--- a specification that says nothing: white space alone
-pub record IsSpecification (text : List ℕ) : Type 0 where
-  pub short : length text ≤ spec_limit
-  pub blank : list_all is_blank text ≡ true
-
--- the text of an expression has this tree
-pub record HasTree (text : List ℕ) (tree : ExprTree) : Type 0 where
-  pub short : length text ≤ expr_limit
-  pub spelled : tokens_of Expr text ≡ Some (spelling tree)
+-- the tokens are those of a sum
+pub record IsSumOf (tokens : List Token) (tree : ExprTree) : Type 0 where
+  pub written : AreTokens tokens (expr_spelling tree)
   pub grouped : IsSum tree
-  pub shallow : depth tree ≤ depth_limit
+  pub shallow : expr_depth tree ≤ depth_limit
 
--- no tree
-abbrev pub HasNoTree : List ℕ → Type 0
-HasNoTree text = (tree : ExprTree) → HasTree text tree → ⊥
+-- The text of a specification has these names and this tree: the built-in names and then its identifiers in text order,
+-- each once; and a tree over their numbers, in which each name stands for what its place wants.
+pub record IsSpecification (text : List ℕ) (names : List (List ℕ)) (tree : SpecTree) : Type 0 where
+  pub short : length text ≤ spec_limit
+  pub lexemes : List Lexeme
+  pub lexed : lexemes_of Spec text ≡ Some lexemes
+  pub named : names ≡ names_behind built_in_names lexemes
+  pub read : IsSpecOf (tokens_with names lexemes) tree
+  pub bound : is_bound tree ≡ true
+
+-- Behind a specification with the first names the text of an expression has these names and this tree. So far no name
+-- stands for anything in it.
+pub record HasTree (first : List (List ℕ)) (text : List ℕ) (names : List (List ℕ)) (tree : ExprTree) : Type 0 where
+  pub short : length text ≤ expr_limit
+  pub lexemes : List Lexeme
+  pub lexed : lexemes_of Expr text ≡ Some lexemes
+  pub named : names ≡ names_behind first lexemes
+  pub read : IsSumOf (tokens_with names lexemes) tree
+  pub bound : is_over [] tree ≡ true
+
+-- no names and no tree
+abbrev pub IsNoSpecification : List ℕ → Type 0
+IsNoSpecification text = (names : List (List ℕ)) (tree : SpecTree) → IsSpecification text names tree → ⊥
+
+abbrev pub HasNoTree : List (List ℕ) → List ℕ → Type 0
+HasNoTree first text = (names : List (List ℕ)) (tree : ExprTree) → HasTree first text names tree → ⊥
 
 -- the one refusal of a text so far: a syntax fault where it begins
 abbrev pub syntax_fault : Part → SpecFault
 syntax_fault part = record { kind = SyntaxFault; place = start_of part }
 
+-- the specification is accepted, and the expression behind it is not
+pub record RefusesExpression (spec text : List ℕ) : Type 0 where
+  pub names : List (List ℕ)
+  pub tree : SpecTree
+  pub accepted : IsSpecification spec names tree
+  pub refused : HasNoTree names text
+
 -- The two texts have this refusal first: the specification's comes before the expression's.
 abbrev pub IsFirstRefusal : List ℕ → List ℕ → SpecFault → Type 0
 IsFirstRefusal spec text fault =
-    ((IsSpecification spec → ⊥) × (fault ≡ syntax_fault Spec))
-    ⊎ (IsSpecification spec × HasNoTree text × (fault ≡ syntax_fault Expr))
+    (IsNoSpecification spec × (fault ≡ syntax_fault Spec))
+    ⊎ (RefusesExpression spec text × (fault ≡ syntax_fault Expr))
+
+-- the two texts are run: they have these trees
+pub record IsAccepted (spec text : List ℕ) (tree : SpecTree) (expression : ExprTree) : Type 0 where
+  pub first : List (List ℕ)
+  pub names : List (List ℕ)
+  pub specification : IsSpecification spec first tree
+  pub expression_tree : HasTree first text names expression

@@ -1,75 +1,31 @@
--- The tokens of a text, of which white space stands round any: numerals and the sign `+`.
-use Rattle.std.specs.Prelude.{ℕ, ◌^◌, ℤ, pos, Bool, ◌&&◌, ◌||◌, ◌==◌, nat_eq, nat_lt, if◌then◌else◌, List, [], ◌∷◌, length, drop, codes, Option, Some, None}
-use Rattle.std.specs.List.{list_all, starts_with}
-use Rattle.std.specs.Char.{digit_value}
-use Rattle.std.specs.Str.Parse.{digits_value}
-use Rattle.vdm_kinds.specs.declared.part.Part.{Part}
-use Rattle.vdm_kinds.specs.declared.place.Place.{Place}
-use Rattle.vdm_grammar.specs.Positions.{start_of, after}
+-- The names and the tokens of a text's lexemes.
+use Rattle.std.specs.Prelude.{ℕ, List, [], ◌∷◌, map}
+use Rattle.vdm_kinds.specs.NameList.{with_names, number_in}
+use Rattle.vdm_grammar.specs.declared.token.Token.{Token}
+use Rattle.vdm_grammar.specs.declared.token.TokenKind.{TokenKind}
+use Rattle.vdm_grammar.specs.declared.token.TokenKind.TheVariants as kind
+use Rattle.vdm_grammar.specs.Lexemes.{Lexeme, LexemeKind, identifier, whole, mark}
 
--- space, tab, line feed, carriage return
-abbrev pub is_blank : ℕ → Bool
-is_blank c = c == 32 || c == 9 || c == 10 || c == 13
+-- an identifier before others; what is none adds nothing
+abbrev pub identifier_before : LexemeKind → List (List ℕ) → List (List ℕ)
+identifier_before (identifier text) others = text ∷ others
+identifier_before (whole n) others = others
+identifier_before (mark m) others = others
 
-abbrev pub is_plus : ℕ → Bool
-is_plus c = c == 43
+-- the identifiers of lexemes, in text order
+abbrev pub identifiers : List Lexeme → List (List ℕ)
+identifiers [] = []
+identifiers (lexeme ∷ lexemes) = identifier_before lexeme.kind (identifiers lexemes)
 
--- A text in pieces: a blank and a sign each stand alone, and what stands between them is a word.
-pub data Piece : Type 0 where
-  gap : Piece
-  plus_sign : Place → Piece
-  word : List ℕ → Place → Piece
+-- the names behind those that were there before: each identifier in text order, once
+abbrev pub names_behind : List (List ℕ) → List Lexeme → List (List ℕ)
+names_behind names lexemes = with_names names (identifiers lexemes)
 
--- a character before the pieces of what follows it: it is in the word that begins right there, or it is a word alone
-abbrev pub word_on : ℕ → Place → List Piece → List Piece
-word_on c place [] = word (c ∷ []) place ∷ []
-word_on c place (gap ∷ pieces) = word (c ∷ []) place ∷ gap ∷ pieces
-word_on c place (plus_sign p ∷ pieces) = word (c ∷ []) place ∷ plus_sign p ∷ pieces
-word_on c place (word cs p ∷ pieces) = word (c ∷ cs) place ∷ pieces
+abbrev pub token_kind : List (List ℕ) → LexemeKind → TokenKind
+token_kind names (identifier text) = kind.Name (record { 0 = number_in names text })
+token_kind names (whole n) = kind.Whole n
+token_kind names (mark m) = kind.Mark m
 
--- the pieces of a text that begins at a place
-abbrev pub pieces_of : Place → List ℕ → List Piece
-pieces_of place [] = []
-pieces_of place (c ∷ cs) =
-    if is_blank c then gap ∷ pieces_of (after place c) cs
-    else if is_plus c then plus_sign place ∷ pieces_of (after place c) cs
-    else word_on c place (pieces_of (after place c) cs)
-
--- one digit of the base or more, and nothing else
-abbrev pub is_number_in : ℕ → List ℕ → Bool
-is_number_in base digits = nat_lt 0 (length digits) && list_all (λ c. nat_lt (digit_value c) base) digits
-
--- the value of digits in a base, up to 2^127 - 1
-abbrev pub value_in : ℕ → List ℕ → Option ℤ
-value_in base digits =
-    if is_number_in base digits && nat_lt (digits_value base digits) (2 ^ 127) then Some (pos (digits_value base digits))
-    else None
-
--- the value of a whole literal: hexadecimal digits behind `0x`, or decimal digits
-abbrev pub whole_value : List ℕ → Option ℤ
-whole_value cs = if starts_with nat_eq cs (codes "0x") then value_in 16 (drop 2 cs) else value_in 10 cs
-
-pub data Token : Type 0 where
-  number : ℤ → Place → Token
-  plus : Place → Token
-
--- a token before others, where there is one
-abbrev pub number_before : Option ℤ → Place → Option (List Token) → Option (List Token)
-number_before (Some n) place (Some tokens) = Some (number n place ∷ tokens)
-number_before (Some n) place None = None
-number_before None place tokens = None
-
-abbrev pub plus_before : Place → Option (List Token) → Option (List Token)
-plus_before place (Some tokens) = Some (plus place ∷ tokens)
-plus_before place None = None
-
--- the tokens of pieces, where each word is a whole literal
-abbrev pub tokens_in : List Piece → Option (List Token)
-tokens_in [] = Some []
-tokens_in (gap ∷ pieces) = tokens_in pieces
-tokens_in (plus_sign place ∷ pieces) = plus_before place (tokens_in pieces)
-tokens_in (word cs place ∷ pieces) = number_before (whole_value cs) place (tokens_in pieces)
-
--- the tokens of a text
-abbrev pub tokens_of : Part → List ℕ → Option (List Token)
-tokens_of part text = tokens_in (pieces_of (start_of part) text)
+-- the tokens of lexemes, where an identifier is its place among the names
+abbrev pub tokens_with : List (List ℕ) → List Lexeme → List Token
+tokens_with names lexemes = map (λ (lexeme : Lexeme). record { kind = token_kind names lexeme.kind; place = lexeme.place }) lexemes

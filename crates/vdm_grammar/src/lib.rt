@@ -1,6 +1,14 @@
-//! Which tree a text has: its tokens, the spelling of a tree, and that a text has at most one. Definitions and laws alone.
+//! Which tree a text has: its lexemes, the spelling of a tree, what its names stand for, and that a text has at most one.
+//! Definitions and laws, and the kinds of tokens that both speak of.
 #![tactic(auto)]
 
 mod laws;
+mod mark;
+mod token;
 
-pub use laws::{one_refusal, one_sum, one_tree, sum_is_read};
+pub use laws::{
+    one_pair_of_trees, one_refusal, one_specification, one_tree, specification_is_read,
+    sum_is_read, worked_texts,
+};
+pub use mark::Mark;
+pub use token::{Token, TokenKind};

@@ -1,0 +1,130 @@
+-- Definitions: each variable and each operation of the grammar is read off its tokens.
+use Rattle.std.proofs.Common.{◌≡◌, ◌≤◌, List, [], ◌∷◌, ◌++◌, Option, Some, None, refl, ap, sym, ◌∙◌, subst}
+use Rattle.vdm_kinds.specs.declared.access.Access.{Access}
+use Rattle.vdm_kinds.specs.declared.place.Place.{Place}
+use Rattle.vdm_kinds.specs.declared.name.Name.{Name as NameNumber}
+use Rattle.abstract_syntax.specs.Types.{TypeTree, nat}
+use Rattle.abstract_syntax.specs.Expressions.{ExprTree, whole, named, joined, apply}
+use Rattle.abstract_syntax.specs.Statements.{StmtTree}
+use Rattle.abstract_syntax.specs.Classes.{VariableTree, OperationTree}
+use Rattle.vdm_grammar.specs.declared.mark.Mark.TheVariants as mark
+use Rattle.vdm_grammar.specs.declared.token.Token.{Token}
+use Rattle.vdm_grammar.specs.declared.token.TokenKind.TheVariants.{Name, Whole}
+use Rattle.vdm_grammar.specs.Grammar.{IsStatement, stmt_depth, depth_limit, private_access, public_access, IsLiteral, IsVariable, IsOperation}
+use Rattle.vdm_grammar.specs.Spelling.{at, anywhere, sign, sign_at_place, type_spelling, stmt_spelling, result_spelling, variable_spelling, operation_spelling}
+use Rattle.vdm_grammar.specs.Reading.{Read, onto, mark_in, name_in, literal_in, stmt_in, type_in, variable_in, brackets_in, result_in, signature_in, definition_in, operation_in}
+use Rattle.vdm_grammar.proofs.Fronts.{Front, split, onto-is, choice-is, choice-other, onto-none}
+use Rattle.vdm_grammar.proofs.Marks.{mark_in-at, mark_in-sign, onto-sign}
+use Rattle.vdm_grammar.proofs.Names.{name_in-at, onto-again, other_mark}
+use Rattle.vdm_grammar.proofs.StatementsWritten.{stmt_in-is}
+use Rattle.vdm_grammar.proofs.DefinitionsRead.{signature_words, definition_words}
+
+-- a literal, a type
+literal_in-is : (n : _) (place : Place) {tokens rest : List Token} → Front tokens (at (Whole n) place ∷ []) rest → literal_in tokens ≡ Some (whole n place, rest)
+literal_in-is n place {tokens = []} h = absurd h.begins
+literal_in-is n place {tokens = token ∷ tokens} h = rw (h.begins.0, h.begins.1) refl
+
+type_in-is : (tree : TypeTree) {tokens rest : List Token} → Front tokens (type_spelling tree) rest → type_in tokens ≡ Some (tree, rest)
+type_in-is (nat place) {tokens = tokens} {rest = rest} h = onto-is (mark_in mark.Nat tokens) _ _ place rest (mark_in-at mark.Nat place h) refl
+
+-- a variable with its parts
+abbrev variable_of : Access → NameNumber → Place → TypeTree → Option ExprTree → Place → VariableTree
+variable_of access name name_place declared initial place = record { access = access; name = name; name_place = name_place; declared = declared; initial = initial; place = place }
+
+abbrev literal_variable : NameNumber → Place → TypeTree → ExprTree → VariableTree
+literal_variable name place declared value = variable_of private_access name place declared (Some value) place
+
+literal_variable-is : (name : NameNumber) (place : Place) (declared : TypeTree) (value : ExprTree) (tokens rest : List Token) → IsLiteral (Some value) → Front tokens (variable_spelling (literal_variable name place declared value)) rest → variable_in tokens ≡ Some (literal_variable name place declared value, rest)
+literal_variable-is name place declared (named m p) tokens rest l h = absurd l
+literal_variable-is name place declared (joined left operator right p) tokens rest l h = absurd l
+literal_variable-is name place declared (apply head arguments p) tokens rest l h = absurd l
+literal_variable-is name place (nat type_place) (whole n p) tokens rest l h =
+    let a = split (at (Name name) place ∷ []) (sign mark.Colon ∷ sign_at_place mark.Nat type_place ∷ sign mark.Becomes ∷ at (Whole n) p ∷ sign mark.Semicolon ∷ []) h in
+    let b = split (sign mark.Colon ∷ []) (sign_at_place mark.Nat type_place ∷ sign mark.Becomes ∷ at (Whole n) p ∷ sign mark.Semicolon ∷ []) a.second in
+    let c = split (sign_at_place mark.Nat type_place ∷ []) (sign mark.Becomes ∷ at (Whole n) p ∷ sign mark.Semicolon ∷ []) b.second in
+    let d = split (sign mark.Becomes ∷ []) (at (Whole n) p ∷ sign mark.Semicolon ∷ []) c.second in
+    let e = split (at (Whole n) p ∷ []) (sign mark.Semicolon ∷ []) d.second in
+    onto-is (name_in tokens) _ _ _ a.middle (name_in-at name place a.first)
+    (onto-sign mark.Colon a.middle _ _ b.first (λ colon.
+    onto-is (type_in b.middle) _ _ _ c.middle (type_in-is (nat type_place) c.first)
+    (onto-sign mark.Becomes c.middle _ _ d.first (λ becomes.
+    onto-is (literal_in d.middle) _ _ _ e.middle (literal_in-is n p e.first)
+    (onto-sign mark.Semicolon e.middle _ _ e.second (λ semicolon. refl))))))
+
+-- a variable of the grammar is one with a literal
+with_initial : (v : VariableTree) (initial : Option ExprTree) → v.initial ≡ initial → IsVariable v → (value : ExprTree) × IsLiteral (Some value) × (v ≡ literal_variable v.name v.name_place v.declared value)
+with_initial v None e h = absurd (subst IsLiteral e h.initial)
+with_initial v (Some value) e h =
+    let a = h.access in
+    let p = h.place in (
+      value,
+      subst IsLiteral e h.initial,
+      ap (λ (access : Access). variable_of access v.name v.name_place v.declared v.initial v.place) a
+          ∙ ap (λ (initial : Option ExprTree). variable_of private_access v.name v.name_place v.declared initial v.place) e
+          ∙ ap (λ (place : Place). variable_of private_access v.name v.name_place v.declared (Some value) place) p,
+    )
+
+pub variable_in-is : (v : VariableTree) {tokens rest : List Token} → IsVariable v → Front tokens (variable_spelling v) rest → variable_in tokens ≡ Some (v, rest)
+variable_in-is v {tokens = tokens} {rest = rest} g h =
+    let k = with_initial v v.initial refl g in
+    let front = subst (λ (w : VariableTree). Front tokens (variable_spelling w) rest) k.2 h in
+    literal_variable-is v.name v.name_place v.declared k.0 tokens rest k.1 front ∙ ap (λ (w : VariableTree). Some (w, rest)) (sym k.2)
+
+-- ---- operations
+
+-- two brackets
+onto-brackets : {B : Type 0} (tokens : List Token) (next : Place → List Token → Read B) (y : Read B) {rest : List Token} → Front tokens (sign mark.Open ∷ sign mark.Close ∷ []) rest → ((place : Place) → next place rest ≡ y) → onto (brackets_in tokens) next ≡ y
+onto-brackets tokens next y {rest = rest} h k =
+    let a = split (sign mark.Open ∷ []) (sign mark.Close ∷ []) h in
+    let p = mark_in-sign mark.Open tokens a.first in
+    let q = mark_in-sign mark.Close a.middle a.second in
+    onto-is (brackets_in tokens) next y q.0 rest (onto-is (mark_in mark.Open tokens) _ _ p.0 a.middle p.1 q.1) (k q.0)
+
+result_in-is : (result : Option TypeTree) {tokens rest : List Token} → Front tokens (result_spelling result) rest → result_in tokens ≡ Some (result, rest)
+result_in-is (Some declared) {tokens = tokens} {rest = rest} h = choice-is (type_in tokens) _ _ _ declared rest (type_in-is declared h) refl
+result_in-is None {tokens = tokens} h =
+    choice-other (type_in tokens) _ _ _ (onto-none (mark_in mark.Nat tokens) _ (other_mark mark.Nat (sign mark.Open) refl h))
+    (onto-brackets tokens _ _ h (λ close. refl))
+
+signature_in-is : (result : Option TypeTree) {tokens rest : List Token} → Front tokens (signature_words result) rest → signature_in tokens ≡ Some (result, rest)
+signature_in-is result {tokens = tokens} h =
+    let a = split (sign mark.Colon ∷ []) (sign mark.Open ∷ sign mark.Close ∷ sign mark.Gives ∷ result_spelling result) h in
+    let b = split (sign mark.Open ∷ sign mark.Close ∷ []) (sign mark.Gives ∷ result_spelling result) a.second in
+    let c = split (sign mark.Gives ∷ []) (result_spelling result) b.second in
+    onto-sign mark.Colon tokens _ _ a.first (λ colon.
+    onto-brackets a.middle _ _ b.first (λ close.
+    onto-sign mark.Gives b.middle _ _ c.first (λ gives.
+    result_in-is result c.second)))
+
+definition_in-is : (name : NameNumber) (body : StmtTree) {tokens middle rest : List Token} → IsStatement body → stmt_depth body ≤ depth_limit → Front tokens (definition_words name body) middle → Front middle (sign mark.Semicolon ∷ []) rest → definition_in name tokens ≡ Some (body, rest)
+definition_in-is name body {tokens = tokens} {middle = middle} g d h k =
+    let a = split (anywhere (Name name) ∷ []) (sign mark.Open ∷ sign mark.Close ∷ sign mark.Defined ∷ stmt_spelling body) h in
+    let b = split (sign mark.Open ∷ sign mark.Close ∷ []) (sign mark.Defined ∷ stmt_spelling body) a.second in
+    let c = split (sign mark.Defined ∷ []) (stmt_spelling body) b.second in
+    onto-again name tokens _ _ a.first (λ again.
+    onto-brackets a.middle _ _ b.first (λ close.
+    onto-sign mark.Defined b.middle _ _ c.first (λ defined.
+    onto-is (stmt_in depth_limit c.middle) _ _ body middle (stmt_in-is depth_limit body c.middle middle g c.second d (other_mark mark.Plus (sign mark.Semicolon) refl k))
+    (onto-sign mark.Semicolon middle _ _ k (λ semicolon. refl)))))
+
+-- an operation that is public
+abbrev operation_of : Access → OperationTree → OperationTree
+operation_of access o = record { access = access; name = o.name; name_place = o.name_place; result_type = o.result_type; body = o.body; place = o.place }
+
+public_operation-is : (o : OperationTree) (tokens rest : List Token) → IsStatement o.body → stmt_depth o.body ≤ depth_limit → Front tokens (operation_spelling (operation_of public_access o)) rest → operation_in tokens ≡ Some (operation_of public_access o, rest)
+public_operation-is o tokens rest g d h =
+    let start = sign_at_place mark.Public o.place ∷ at (Name o.name) o.name_place ∷ signature_words o.result_type in
+    let z = split (start ++ definition_words o.name o.body) (sign mark.Semicolon ∷ []) h in
+    let y = split start (definition_words o.name o.body) z.first in
+    let a = split (sign_at_place mark.Public o.place ∷ []) (at (Name o.name) o.name_place ∷ signature_words o.result_type) y.first in
+    let b = split (at (Name o.name) o.name_place ∷ []) (signature_words o.result_type) a.second in
+    onto-is (mark_in mark.Public tokens) _ _ o.place a.middle (mark_in-at mark.Public o.place a.first)
+    (onto-is (name_in a.middle) _ _ _ b.middle (name_in-at o.name o.name_place b.first)
+    (onto-is (signature_in b.middle) _ _ o.result_type y.middle (signature_in-is o.result_type b.second)
+    (onto-is (definition_in o.name y.middle) _ _ o.body rest (definition_in-is o.name o.body g d y.second z.second) refl)))
+
+pub operation_in-is : (o : OperationTree) {tokens rest : List Token} → IsOperation o → stmt_depth o.body ≤ depth_limit → Front tokens (operation_spelling o) rest → operation_in tokens ≡ Some (o, rest)
+operation_in-is o {tokens = tokens} {rest = rest} g d h =
+    let same : o ≡ operation_of public_access o = ap (λ (access : Access). operation_of access o) g.access in
+    let front = subst (λ (p : OperationTree). Front tokens (operation_spelling p) rest) same h in
+    public_operation-is o tokens rest g.body d front ∙ ap (λ (p : OperationTree). Some (p, rest)) (sym same)
