@@ -1,3 +1,10 @@
+pub mod Bodies
+pub mod Differing
+pub mod Fronts
+pub mod Lexing
+pub mod Naming
 pub mod Numerals
-pub mod ReadingLemmas
+pub mod ScopeLemmas
+pub mod TextTrees
 pub mod Trees
+pub mod Turns

@@ -10,7 +10,7 @@ use Rattle.std.proofs.lemmas.Bool.{cases_Bool}
 use Rattle.std.proofs.lemmas.Bool.Decides.{Decides-and, Decides-ltb, nat_tests}
 use Rattle.std.proofs.lemmas.Str.{IsUtf8-from_ascii}
 use Rattle.std.proofs.lemmas.Str.Ascii.{IsAscii-nil, IsAscii-cons}
-use Rattle.vdm_grammar.specs.Tokens.{is_number_in, value_in}
+use Rattle.vdm_grammar.specs.Words.{is_number_in, value_in}
 
 -- the test of digits means that each is one
 Decides-digits : (base : ℕ) (cs : List ℕ) → Decides (list_all (λ c. nat_lt (digit_value c) base) cs) (AllDigits base cs)

@@ -1,3 +1,4 @@
-pub mod Fronts
-pub mod Reading
+pub mod Lexed
+pub mod Pieces
+pub mod Scopes
 pub mod Views

@@ -1,12 +1,53 @@
--- The grammar's tokens that the reader's tokens are.
-use Rattle.std.specs.Prelude.{List, map}
-use Rattle.vdm_grammar.specs.Tokens.{Token, number, plus}
-use Rattle.first_reader.specs.declared.token.Token.{Token as OwnToken}
-use Rattle.first_reader.specs.declared.token.Token.TheVariants.{Number, Plus}
+-- What the grammar reads, as the program's calls give it.
+use Rattle.std.specs.Prelude.{◌≡◌, List, map, Option, Some, None, option_map, Result, Err, IfOk, Vec}
+use Rattle.std.specs.Borrow.{Bor}
+use Rattle.vdm_kinds.specs.declared.halt.Halt.{Halt}
+use Rattle.vdm_kinds.specs.declared.halt.Halt.TheVariants.{Of}
+use Rattle.vdm_kinds.specs.declared.place.Place.{Place}
+use Rattle.abstract_syntax.specs.Statements.{StmtTree}
+use Rattle.abstract_syntax.specs.Classes.{VariableTree, OperationTree, BlockTree}
+use Rattle.vdm_tree.specs.declared.class_def.Block.{Block}
+use Rattle.vdm_tree.specs.declared.class_def.OpDef.{OpDef}
+use Rattle.vdm_tree.specs.declared.class_def.VarDef.{VarDef}
+use Rattle.vdm_tree.specs.declared.stmt.Stmt.{Stmt}
+use Rattle.vdm_tree.specs.StmtView.{stmt_views}
+use Rattle.vdm_tree.specs.ClassView.{variable_view, operation_view, block_view}
+use Rattle.vdm_grammar.specs.declared.token.Token.{Token}
+use Rattle.vdm_grammar.specs.Reading.{Read, NameAt}
+use Rattle.first_reader.specs.declared.no_tree.NoTree.{NoTree}
+use Rattle.first_reader.specs.declared.single.NameAt.{NameAt as OwnNameAt}
 
-abbrev pub token_view : OwnToken → Token
-token_view (Number value place) = number value place
-token_view (Plus place) = plus place
+abbrev pub place_view : Place → Place
+place_view place = place
 
-abbrev pub views : List OwnToken → List Token
-views tokens = map token_view tokens
+abbrev pub name_view : OwnNameAt → NameAt
+name_view found = record { name = found.name; place = found.place }
+
+-- what was found, and the tokens behind it
+abbrev pub rest_view : {A B : Type 0} → (A → B) → A × Bor (List Token) → B × List Token
+rest_view view found = (view found.0, found.1.now)
+
+-- a call finds what is read, and nothing where nothing is
+abbrev pub Finds : {A B : Type 0} → Option (A × Bor (List Token)) → (A → B) → Read B → Type 0
+Finds result view read = read ≡ option_map (rest_view view) result
+
+-- a call refuses the tokens only where nothing is read
+abbrev pub Refuses : {A B : Type 0} → Result A (Halt NoTree) → Option B → Type 0
+Refuses result read = result ≡ Err (Of (record {})) → read ≡ None
+
+-- what a call gives is what is read, and it refuses the tokens only where nothing is
+pub record Reads {A B : Type 0} (result : Result (A × Bor (List Token)) (Halt NoTree)) (view : A → B) (read : Read B) : Type 0 where
+  pub given : IfOk result (λ found. read ≡ Some (rest_view view found))
+  pub refused : Refuses result read
+
+abbrev pub statements_view : {A : Type 0} → Vec Stmt A → List StmtTree
+statements_view statements = stmt_views statements.items
+
+abbrev pub variables_view : {A : Type 0} → Vec VarDef A → List VariableTree
+variables_view definitions = map variable_view definitions.items
+
+abbrev pub operations_view : {A : Type 0} → Vec OpDef A → List OperationTree
+operations_view definitions = map operation_view definitions.items
+
+abbrev pub blocks_view : {A : Type 0} → Vec Block A → List BlockTree
+blocks_view blocks = map block_view blocks.items

@@ -1,83 +1,109 @@
 // A text in tokens.
 
-ghost use Rattle.std.specs.Prelude.{◌≡◌, ℕ, ◌+◌, ◌^◌, ◌<◌, ◌≤◌, length, List, Option, Some, None, IfOk, OnOk};
-ghost use Rattle.vdm_kinds.specs.declared.spec_fault.SpecFault.{SpecFault};
-ghost use Rattle.vdm_grammar.specs.Positions.{after};
-ghost use Rattle.vdm_grammar.specs.Tokens.{Token as TokenView, tokens_of};
-ghost use Rattle.vdm_grammar.specs.Texts.{expr_limit, syntax_fault};
-ghost use Rattle.first_reader.specs.Views.{views};
-ghost use Rattle.first_reader.specs.Reading.{ends_word, tokens_before, word_before, sign_before};
+ghost use Rattle.std.specs.Prelude.{◌≡◌, ◌+◌, ◌^◌, ◌<◌, ◌≤◌, length, ◌∷◌, [], None, IfOk, OnOk};
+ghost use Rattle.std.specs.Str.{IsAscii};
+ghost use Rattle.vdm_kinds.specs.NameList.{with_name, with_names, number_in};
+ghost use Rattle.vdm_grammar.specs.Positions.{start_of, after};
+ghost use Rattle.vdm_grammar.specs.Lexemes.{front_of, lexemes_of};
+ghost use Rattle.vdm_grammar.specs.Tokens.{identifier_before, token_kind};
+ghost use Rattle.first_reader.specs.declared.no_tree.NoTree.{NoTree};
+ghost use Rattle.first_reader.specs.Lexed.{IsLexed, IsPushed};
+ghost use Rattle.first_reader.specs.Pieces.{kind_view};
 
 use crate::blank::is_blank;
-use crate::numeral::whole_value;
-use crate::refusal::{start_of, syntax_fault};
-use crate::token::Token;
+use crate::front::front_of;
+use crate::no_tree::NoTree;
+use crate::word::Kind;
 use std::alloc::Global;
-use vdm_kinds::{Halt, OutOfMemory, Part, Place, SpecFault};
+use vdm_grammar::{Token, TokenKind};
+use vdm_kinds::{Halt, Name, Names, OutOfMemory, Part, Place};
 
-/// The tokens of an expression's text. A text with a word that is no whole literal is refused.
-#[tactic(auto, using(crate::proofs::ReadingLemmas::reading))]
-pub fn tokens(alloc: Global, text: &[u8]) -> Result<Vec<Token>, Halt<SpecFault>>
-    requires { length text.now ≤ expr_limit }
-    ensures tokens { IfOk result (λ found. tokens_of Part.Expr text.now ≡ Some (views found.items)) }
-    ensures refused { (fault : SpecFault) → result ≡ Err (Halt.Of fault)
-        → (tokens_of Part.Expr text.now ≡ None) × (fault ≡ syntax_fault Part.Expr) }
+/// The tokens of a text, whose identifiers are named in text order. A text with anything else in it is refused; the
+/// names may then be more.
+pub fn lex(
+    alloc: Global,
+    part: Part,
+    text: &[u8],
+    names: &mut Names,
+) -> Result<Vec<Token>, Halt<NoTree>>
+    requires room { length names.old + length text.now + 1 < 2 ^ 32 }
+    ensures lexed { IfOk result (λ tokens. IsLexed part text.now names.old names.new tokens.items) }
+    ensures room { OnOk result (length names.new ≤ length names.old + length text.now) }
+    ensures refused { (fault : NoTree) → result ≡ Err (Halt.Of fault) → lexemes_of part text.now ≡ None }
 {
     let mut tokens = Vec::new(alloc);
-    let mut place = start_of(Part::Expr);
-    // The word that is not yet ended begins at `word`, and is empty between words.
-    let mut word = 0;
-    let mut began = place;
+    let mut place = start_of(part);
+    // How many characters of the last token are still to come.
+    let mut skipped = 0;
     for (i, byte) in text.iter().enumerate() {
-        let next = after(place, *byte);
-        if ends_word(*byte) {
-            push_word(&mut tokens, &text[word..i], began)?;
-            push_sign(&mut tokens, *byte, place)?;
-            word = i + 1;
-            began = next;
+        if skipped > 0 {
+            skipped -= 1;
+        } else if !is_blank(*byte) {
+            skipped = push_token(&mut tokens, &text[i..], place, names)? - 1;
         }
-        place = next;
+        place = after(place, *byte);
     }
-    push_word(&mut tokens, &text[word..], began)?;
     Ok(tokens)
 }
 
-/// Adds a word's token, and nothing for a word of no characters.
-fn push_word(tokens: &mut Vec<Token>, word: &[u8], place: Place) -> Result<(), Halt<SpecFault>>
-    ensures added { OnOk result ((rest : Option (List TokenView))
-        → tokens_before (views tokens.new.items) rest
-        ≡ tokens_before (views tokens.old.items) (word_before word.now place rest)) }
-    ensures refused { (fault : SpecFault) → result ≡ Err (Halt.Of fault)
-        → ((rest : Option (List TokenView)) → word_before word.now place rest ≡ None)
-        × (fault ≡ syntax_fault Part.Expr) }
+/// Adds the token that a text begins with, and gives how many characters it has. Where the text begins with none, it
+/// is refused.
+fn push_token(
+    tokens: &mut Vec<Token>,
+    text: &[u8],
+    place: Place,
+    names: &mut Names,
+) -> Result<usize, Halt<NoTree>>
+    requires { length names.old < 2 ^ 32 }
+    ensures pushed { IfOk result (λ length. IsPushed text.now place names.old names.new tokens.old.items tokens.new.items length) }
+    ensures room { OnOk result (length names.new ≤ length names.old + 1) }
+    ensures refused { (fault : NoTree) → result ≡ Err (Halt.Of fault) → front_of text.now ≡ None }
 {
-    if word.is_empty() {
-        return Ok(());
-    }
-    let Some(value) = whole_value(word) else {
-        return Err(Halt::Of(syntax_fault(Part::Expr)));
+    let Some(front) = front_of(text) else {
+        return Err(Halt::Of(NoTree));
     };
-    tokens.push(Token::Number(value, place))?;
-    Ok(())
+    let kind = token_kind(front.kind, &text[..front.length], names)?;
+    tokens.push(Token { kind, place })?;
+    Ok(front.length)
 }
 
-/// Adds the token of a character that ends a word, and nothing for a blank.
-fn push_sign(tokens: &mut Vec<Token>, byte: u8, place: Place) -> Result<(), OutOfMemory>
-    ensures { OnOk result ((rest : Option (List TokenView))
-        → tokens_before (views tokens.new.items) rest
-        ≡ tokens_before (views tokens.old.items) (sign_before byte place rest)) }
+/// What the token of a piece of a text is. An identifier is named.
+fn token_kind(kind: Kind, piece: &[u8], names: &mut Names) -> Result<TokenKind, OutOfMemory>
+    requires room { length names.old < 2 ^ 32 }
+    requires ascii { IsAscii piece.now }
+    ensures kind { IfOk result (λ token. token ≡ token_kind names.new (kind_view piece.now kind)) }
+    ensures names { OnOk result (names.new ≡ with_names names.old (identifier_before (kind_view piece.now kind) [])) }
 {
-    if byte == b'+' {
-        tokens.push(Token::Plus(place))?;
+    Ok(match kind {
+        Kind::Identifier => TokenKind::Name(name_of(piece, names)?),
+        Kind::Whole(value) => TokenKind::Whole(value),
+        Kind::Mark(mark) => TokenKind::Mark(mark),
+    })
+}
+
+/// The name of an identifier.
+fn name_of(identifier: &[u8], names: &mut Names) -> Result<Name, OutOfMemory>
+    requires room { length names.old < 2 ^ 32 }
+    requires ascii { IsAscii identifier.now }
+    ensures name { IfOk result (λ name. name.0 ≡ number_in names.new identifier.now) }
+    ensures names { OnOk result (names.new ≡ with_name names.old identifier.now) }
+{
+    let Ok(identifier) = str::from_utf8(identifier) else {
+        // What is ASCII is UTF-8.
+        unreachable!()
+    };
+    names.name(identifier)
+}
+
+/// The place of a text's first character.
+pub fn start_of(part: Part) -> Place
+    ensures { result ≡ start_of part }
+{
+    Place {
+        part,
+        line: 1,
+        column: 1,
     }
-    Ok(())
-}
-
-/// Whether a character is in no word.
-fn ends_word(byte: u8) -> bool
-    ensures { result ≡ ends_word byte }
-{
-    is_blank(byte) || byte == b'+'
 }
 
 /// The place after a character.
@@ -99,3 +125,6 @@ fn after(place: Place, byte: u8) -> Place
         }
     }
 }
+
+#[cfg(test)]
+mod tests;

@@ -1,14 +1,25 @@
-//! Reads the two texts of the first stage: a specification that says nothing, and a sum of literals.
+//! Reads the two texts: the class text of a specification, and a sum of literals.
 #![tactic(auto)]
 
+mod binding;
 mod blank;
+mod class;
+mod definition;
 mod expression;
+mod front;
 mod lexer;
+mod members;
+mod no_tree;
 mod numeral;
 mod refusal;
+mod reserved;
+mod scope;
+mod sign;
+mod single;
 mod specification;
+mod statement;
 mod sum;
-mod token;
+mod word;
 
 pub use expression::read_expression;
-pub use specification::read_specification;
+pub use specification::{SPEC_LIMIT, read_specification};

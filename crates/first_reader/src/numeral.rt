@@ -1,7 +1,7 @@
 // Whole literals.
 
 ghost use Rattle.std.specs.Prelude.{◌≡◌, ◌==◌, ◌||◌, ◌≤◌, slice_index};
-ghost use Rattle.vdm_grammar.specs.Tokens.{whole_value, value_in};
+ghost use Rattle.vdm_grammar.specs.Words.{whole_value, value_in};
 
 /// The value of a whole literal: hexadecimal digits behind `0x`, or decimal digits. A word that is none, or whose
 /// value is 2^127 or more, has no value.

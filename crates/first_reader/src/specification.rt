@@ -1,74 +1,62 @@
 // The specification's text.
 
-ghost use Rattle.std.specs.Prelude.{◌≡◌, MatchResult};
-ghost use Rattle.vdm_grammar.specs.Texts.{IsSpecification, syntax_fault};
+ghost use Rattle.std.specs.Prelude.{◌≡◌, ◌+◌, ◌≤◌, true, length, IfOk, OnOk, None, Some};
+ghost use Rattle.vdm_kinds.specs.NameList.{built_in_names};
+ghost use Rattle.vdm_kinds.specs.declared.spec_fault.SpecFault.{SpecFault};
+ghost use Rattle.vdm_grammar.specs.Texts.{IsSpecification, IsNoSpecification, spec_limit, syntax_fault};
+ghost use Rattle.vdm_tree.specs.ClassView.{spec_view};
+ghost use Rattle.first_reader.specs.declared.no_tree.NoTree.{NoTree};
 
-use crate::blank::is_blank_text;
+use crate::binding::is_bound;
+use crate::class::specification_of;
+use crate::lexer::lex;
+use crate::no_tree::{NO_TREE, NoTree};
 use crate::refusal::syntax_fault;
-use vdm_kinds::{Part, SpecFault};
+use std::alloc::Global;
+use vdm_kinds::{Halt, Names, Part, SpecFault};
+use vdm_tree::Spec;
 
 /// The most bytes of a specification, 4 MiB.
-const SPEC_LIMIT: usize = 4_194_304;
+pub const SPEC_LIMIT: usize = 4_194_304;
 
-/// Whether a specification's text is one: at most 4 MiB of white space alone. A longer text, or one with anything
-/// else in it, is refused by a syntax fault where it begins.
-pub fn read_specification(text: &[u8]) -> Result<(), SpecFault>
-    ensures { MatchResult result (λ _. IsSpecification text.now)
-        (λ fault. (IsSpecification text.now → ⊥) × (fault ≡ syntax_fault Part.Spec)) }
+/// The tree of a specification's text, and its names behind the built-in ones. A text that is none, by its length, its
+/// tokens, its grammar, its depth or its names, is refused by a syntax fault where it begins; the names may then be
+/// more. Want of memory is told apart.
+pub fn read_specification(
+    alloc: Global,
+    text: &[u8],
+    names: &mut Names,
+) -> Result<Spec, Halt<SpecFault>>
+    requires { names.old ≡ built_in_names }
+    ensures tree { IfOk result (λ spec. IsSpecification text.now names.new (spec_view spec)) }
+    ensures room { OnOk result (length names.new ≤ length text.now + 3) }
+    ensures refused { (fault : SpecFault) → result ≡ Err (Halt.Of fault)
+        → IsNoSpecification text.now × (fault ≡ syntax_fault Part.Spec) }
 {
-    if text.len() <= SPEC_LIMIT && is_blank_text(text) {
-        Ok(())
+    match bound_specification(alloc, text, names) {
+        Ok(spec) => Ok(spec),
+        Err(Halt::Of(NoTree)) => Err(Halt::Of(syntax_fault(Part::Spec))),
+        Err(Halt::OutOfMemory) => Err(Halt::OutOfMemory),
+    }
+}
+
+fn bound_specification(alloc: Global, text: &[u8], names: &mut Names) -> Result<Spec, Halt<NoTree>>
+    requires { names.old ≡ built_in_names }
+    ensures tree { IfOk result (λ spec. IsSpecification text.now names.new (spec_view spec)) }
+    ensures room { OnOk result (length names.new ≤ length text.now + 3) }
+    ensures refused { (fault : NoTree) → result ≡ Err (Halt.Of fault) → IsNoSpecification text.now }
+{
+    if text.len() > SPEC_LIMIT {
+        return Err(NO_TREE);
+    }
+    let tokens = lex(alloc, Part::Spec, text, names)?;
+    let spec = specification_of(alloc, &tokens)?;
+    if is_bound(alloc, &spec)? {
+        Ok(spec)
     } else {
-        Err(syntax_fault(Part::Spec))
+        Err(NO_TREE)
     }
 }
 
 #[cfg(test)]
-mod tests {
-    use super::*;
-    use std::test::Fail;
-    use vdm_kinds::{Place, SpecKind};
-
-    // A syntax fault where the specification's text begins.
-    fn is_refused(answer: Result<(), SpecFault>) -> bool {
-        let start = Place {
-            part: Part::Spec,
-            line: 1,
-            column: 1,
-        };
-        answer
-            == Err(SpecFault {
-                kind: SpecKind::SyntaxFault,
-                place: start,
-            })
-    }
-
-    #[test]
-    fn white_space_alone(rt: HostRuntime) {
-        let accepted: [&[u8]; 6] = [b"", b" ", b"\t", b"\n", b"\r", b" \r\n\t "];
-        for text in accepted {
-            assert_eq!(rt; read_specification(text), Ok(()), "at {text:?}");
-        }
-        let refused: [&[u8]; 7] = [
-            b"a",
-            b" a",
-            b"a ",
-            b"\0",
-            b"\x0b",
-            b"\xc2\xa0",
-            b"\xef\xbb\xbf",
-        ];
-        for text in refused {
-            assert!(rt; is_refused(read_specification(text)), "at {text:?}");
-        }
-    }
-
-    #[test]
-    fn four_mebibytes_at_most(rt: HostRuntime) -> Result<(), Fail> {
-        let mut text = vec![in rt.alloc(); b'\n'; 4_194_304]?;
-        assert_eq!(rt; read_specification(&text), Ok(()));
-        text.push(b'\n')?;
-        assert!(rt; is_refused(read_specification(&text)));
-        Ok(())
-    }
-}
+mod tests;

@@ -1,63 +1,70 @@
 // The sum that tokens are.
 
-ghost use Rattle.std.specs.Prelude.{◌≡◌, List, ◌∷◌, None, IfOk};
-ghost use Rattle.vdm_kinds.specs.declared.spec_fault.SpecFault.{SpecFault};
-ghost use Rattle.vdm_grammar.specs.Tokens.{Token as TokenView};
-ghost use Rattle.vdm_grammar.specs.Sums.{tree_of};
-ghost use Rattle.vdm_grammar.specs.Texts.{syntax_fault};
+ghost use Rattle.std.specs.Prelude.{◌≡◌, Some, None, IfOk, Err};
+ghost use Rattle.vdm_grammar.specs.Reading.{term_in, sum_on, sum_in, expr_of};
 ghost use Rattle.vdm_tree.specs.View.{view_of};
-ghost use Rattle.first_reader.specs.Views.{token_view, views};
-ghost use Rattle.first_reader.specs.Fronts.{sum_from};
+ghost use Rattle.first_reader.specs.Views.{Finds, Reads, Refuses};
 
-use crate::refusal::syntax_fault;
-use crate::token::Token;
+use crate::no_tree::{NO_TREE, NoTree};
+use crate::single::mark;
 use std::alloc::Global;
-use vdm_kinds::{Halt, Operator, Part, Place, SpecFault};
+use vdm_grammar::{Mark, Token, TokenKind};
+use vdm_kinds::{Halt, Operator};
 use vdm_tree::Expr;
 
-/// The front of a sum that has been read.
-#[derive(Drop)]
-enum Front {
-    /// A literal has to come.
-    Nothing,
-    /// A sign or the end has to come.
-    Sum(Expr),
-    /// A sum and a sign at its place: a literal has to come.
-    Sign(Expr, Place),
-}
+/// How many nodes may be nested.
+pub const DEPTH_LIMIT: u32 = 200;
 
-/// The sum, grouped to the left, of literals with a `+` between each two. Other tokens are refused.
-pub fn sum_of(alloc: Global, tokens: &[Token]) -> Result<Expr, Halt<SpecFault>>
-    ensures sum { IfOk result (λ e. tree_of (views tokens.now) ≡ Some (view_of e)) }
-    ensures refused { (fault : SpecFault) → result ≡ Err (Halt.Of fault)
-        → (tree_of (views tokens.now) ≡ None) × (fault ≡ syntax_fault Part.Expr) }
+/// The sum that the tokens are, from the first to the last. Other tokens have no tree.
+pub fn sum_of(alloc: Global, tokens: &[Token]) -> Result<Expr, Halt<NoTree>>
+    ensures tree { IfOk result (λ e. expr_of tokens.now ≡ Some (view_of e)) }
+    ensures refused { Refuses result (expr_of tokens.now) }
 {
-    let mut front = Front::Nothing;
-    for token in tokens {
-        front = longer(alloc, front, *token)?;
-    }
-    match front {
-        Front::Sum(sum) => Ok(sum),
-        Front::Nothing | Front::Sign(_, _) => Err(Halt::Of(syntax_fault(Part::Expr))),
+    match sum(alloc, tokens, DEPTH_LIMIT)? {
+        (sum, []) => Ok(sum),
+        _ => Err(NO_TREE),
     }
 }
 
-/// The front with one more token, unless that may not stand there.
-fn longer(alloc: Global, front: Front, token: Token) -> Result<Front, Halt<SpecFault>>
-    ensures longer { IfOk result (λ next. (rest : List TokenView)
-        → sum_from next rest ≡ sum_from front (token_view token ∷ rest)) }
-    ensures refused { (fault : SpecFault) → result ≡ Err (Halt.Of fault)
-        → ((rest : List TokenView) → sum_from front (token_view token ∷ rest) ≡ None)
-        × (fault ≡ syntax_fault Part.Expr) }
+/// A sum of at most `room` terms, and the tokens behind it.
+pub fn sum<'t>(
+    alloc: Global,
+    tokens: &'t [Token],
+    room: u32,
+) -> Result<(Expr, &'t [Token]), Halt<NoTree>>
+    ensures { Reads result view_of (sum_in room tokens.now) }
 {
-    match (front, token) {
-        (Front::Nothing, Token::Number(value, place)) => Ok(Front::Sum(Expr::whole(value, place))),
-        (Front::Sum(left), Token::Plus(place)) => Ok(Front::Sign(left, place)),
-        (Front::Sign(left, sign), Token::Number(value, place)) => {
-            let right = Expr::whole(value, place);
-            let sum = Expr::infix(alloc, left, Operator::Plus, right, sign)?;
-            Ok(Front::Sum(sum))
-        }
-        _ => Err(Halt::Of(syntax_fault(Part::Expr))),
+    let room = room.checked_sub(1).ok_or(NO_TREE)?;
+    let (first, rest) = term(tokens).ok_or(NO_TREE)?;
+    sum_on(alloc, first, rest, room)
+}
+
+/// A sum that goes on behind `left` by at most `room` terms, and the tokens behind it.
+fn sum_on<'t>(
+    alloc: Global,
+    left: Expr,
+    tokens: &'t [Token],
+    room: u32,
+) -> Result<(Expr, &'t [Token]), Halt<NoTree>>
+    ensures { Reads result view_of (sum_on room (view_of left) tokens.now) }
+{
+    let Some((sign, behind)) = mark(Mark::Plus, tokens) else {
+        return Ok((left, tokens));
+    };
+    let room = room.checked_sub(1).ok_or(NO_TREE)?;
+    let (right, rest) = term(behind).ok_or(NO_TREE)?;
+    let sum = Expr::infix(alloc, left, Operator::Plus, right, sign)?;
+    sum_on(alloc, sum, rest, room)
+}
+
+/// A literal or a name that comes next, and the tokens behind it.
+fn term<'t>(tokens: &'t [Token]) -> Option<(Expr, &'t [Token])>
+    ensures { Finds result view_of (term_in tokens.now) }
+{
+    let (token, rest) = tokens.split_first()?;
+    match token.kind {
+        TokenKind::Whole(value) => Some((Expr::whole(value, token.place), rest)),
+        TokenKind::Name(name) => Some((Expr::name(name, token.place), rest)),
+        TokenKind::Mark(_) => None,
     }
 }
