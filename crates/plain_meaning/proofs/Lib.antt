@@ -1,3 +1,4 @@
 mod Views
 mod Outcomes
+mod ClassNames
 mod Main

@@ -1,31 +1,53 @@
 -- Where main stands after each number of answers.
-use Rattle.std.specs.Prelude.{◌≡◌, ◌≤◌, ℕ, List, [], ◌∷◌, length}
-use Rattle.std.proofs.Common.{refl, sym, arith}
+use Rattle.std.specs.Prelude.{◌≡◌, ◌≤◌, ◌<◌, ℕ, zero, suc, List, [], ◌∷◌, length, drop, Some, None, ◌+◌, slice_get}
+use Rattle.std.proofs.Common.{sym, ap, ◌∙◌, arith}
+use Rattle.std.proofs.lemmas.List.{drop_all, length-drop, length-map}
+use Rattle.vdm_kinds.specs.declared.name.Name.{Name}
+use Rattle.vdm_tree.specs.declared.spec.Spec.{Spec}
+use Rattle.vdm_tree.specs.ClassView.{spec_view}
+use Rattle.abstract_syntax.specs.Classes.{SpecTree}
 use Rattle.abstract_syntax.specs.Expressions.{ExprTree}
-use Rattle.abstract_syntax.specs.Values.{ValueTree}
 use Rattle.run_journal.specs.declared.answer.Answer.{Answer}
-use Rattle.run_journal.specs.declared.question.Question.{Question}
-use Rattle.plans.specs.Plans.{Outcome, gives, faults, needs, onward, run, meaning}
-use Rattle.vdm_meaning.specs.Faults.{Fault}
-use Rattle.vdm_meaning.specs.Expressions.{expr_in, plan_of, spent}
-use Rattle.vdm_meaning.specs.Main.{asks, over, main_code, standing_of, end_with}
-use Rattle.vdm_meaning.proofs.Asking.{LeavesAll, expr-leaves_all}
+use Rattle.run_journal.specs.declared.question.Question.TheVariants.{Class}
+use Rattle.plans.specs.Plans.{part, run, meaning}
+use Rattle.vdm_meaning.specs.Expressions.{Code, expr_in, plan_of, spent}
+use Rattle.vdm_meaning.specs.Main.{asks, over, main_code, standing_of, end_with, classes_of}
+use Rattle.vdm_meaning.specs.ClassEntries.{last_standing}
+use Rattle.vdm_meaning.proofs.Asking.{expr-over}
+use Rattle.vdm_meaning.proofs.Making.{making-asks, making-done}
 
--- an outcome that leaves an answer or more is followed to main's end
-over-onward : (answer : Answer) (more : List Answer) (o : Outcome ValueTree Question Answer Fault) → LeavesAll (answer ∷ more) o → standing_of (onward o (λ v. run (meaning plan_of spent) (end_with v))) ≡ over
-over-onward answer more (gives v left units) e = rw e refl
-over-onward answer more (faults f left) e = rw e refl
-over-onward answer more (needs q) e = absurd e
+abbrev last_code : ExprTree → Code
+last_code tree = part (expr_in tree) end_with
 
-pub main_code-one : (tree : ExprTree) (units : ℕ) (question : Question) → ((answer : Answer) → main_code tree units (answer ∷ []) ≡ asks question) → (answers : List Answer) → length answers ≡ 1 → asks question ≡ main_code tree units answers
-main_code-one tree units question h [] e = absurd (omega arith)
-main_code-one tree units question h (answer ∷ []) e = sym (h answer)
-main_code-one tree units question h (answer ∷ second ∷ more) e = absurd (omega arith)
+-- it has no element there only if it is not so long
+pub past_from_none : (names : List Name) (k : ℕ) → slice_get names k ≡ None → length names ≤ k
+past_from_none [] k e = omega arith
+past_from_none (name ∷ names) zero e = absurd (cc)
+past_from_none (name ∷ names) (suc k) e = let rest = past_from_none names k e in omega arith
 
-main_code-more : (tree : ExprTree) (units : ℕ) (answer second : Answer) (more : List Answer) → main_code tree units (answer ∷ second ∷ more) ≡ over
-main_code-more tree units answer second more = over-onward second more (meaning plan_of spent (expr_in tree) (second ∷ more) units) (expr-leaves_all tree (second ∷ more) units)
+-- there are as many class objects as classes, and one more
+pub length-classes : (spec : SpecTree) → length (classes_of spec) ≡ length spec.classes + 1
+length-classes spec = simp length-map (omega arith)
 
-pub main_code-default : (tree : ExprTree) (units count : ℕ) → 2 ≤ count → (answers : List Answer) → length answers ≡ count → over ≡ main_code tree units answers
-main_code-default tree units count h [] e = absurd (omega arith)
-main_code-default tree units count h (answer ∷ []) e = absurd (omega arith)
-main_code-default tree units count h (answer ∷ second ∷ more) e = sym (main_code-more tree units answer second more)
+pub length-views : (spec : Spec) → length (classes_of (spec_view spec)) ≡ length spec.classes.items + 1
+length-views spec = simp length-map (omega arith)
+
+module _ (spec : SpecTree) (tree : ExprTree) (units : ℕ) (answers : List Answer) where
+  -- with fewer answers than class objects main asks for the next
+  pub main-asks_for_class : (count : ℕ) (class : Name) → Some class ≡ slice_get (classes_of spec) count → length answers ≡ count → asks (Class count class []) ≡ main_code spec tree units answers
+  main-asks_for_class count class is e = sym (ap standing_of (making-asks 0 (classes_of spec) (last_code tree) answers units class (rw e (sym is))) ∙ ap (λ n. asks (Class n class [])) (omega arith))
+
+  main-left : length (classes_of spec) ≤ length answers → main_code spec tree units answers ≡ standing_of (run (meaning plan_of spent) (last_code tree) (drop (length (classes_of spec)) answers) units)
+  main-left h = ap standing_of (making-done 0 (classes_of spec) (last_code tree) answers units h)
+
+  -- with as many it asks its last question
+  pub main-asks_last : length (classes_of spec) ≡ length answers → last_standing tree units ≡ main_code spec tree units answers
+  main-asks_last e = sym (main-left (omega arith) ∙ ap (λ left. standing_of (run (meaning plan_of spent) (last_code tree) left units)) (drop_all (length (classes_of spec)) answers (omega arith)))
+
+  over-left : (left : List Answer) → 0 < length left → standing_of (run (meaning plan_of spent) (last_code tree) left units) ≡ over
+  over-left [] h = absurd (omega arith)
+  over-left (a ∷ left) h = expr-over tree units a left
+
+  -- with more it is over
+  pub main-is_over : length (classes_of spec) < length answers → over ≡ main_code spec tree units answers
+  main-is_over h = sym (main-left (omega arith) ∙ over-left (drop (length (classes_of spec)) answers) (simp length-drop (omega arith)))

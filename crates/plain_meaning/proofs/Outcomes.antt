@@ -1,17 +1,18 @@
 -- What a node comes to, from what its operands come to.
 use Rattle.std.specs.Prelude.{◌≡◌, ℕ, suc, ℤ, List, Result}
 use Rattle.std.proofs.Common.{refl, ap, ◌∙◌, sym}
+use Rattle.vdm_kinds.specs.declared.name.Name.{Name}
 use Rattle.vdm_kinds.specs.declared.operator.Operator.{Operator}
 use Rattle.vdm_kinds.specs.declared.place.Place.{Place}
 use Rattle.vdm_kinds.specs.declared.run_fault.RunFault.{RunFault}
-use Rattle.vdm_kinds.specs.declared.run_fault.RunFault.TheVariants.{StepLimit}
+use Rattle.vdm_kinds.specs.declared.run_fault.RunFault.TheVariants.{StepLimit, Undefined}
 use Rattle.abstract_syntax.specs.Values.{number}
-use Rattle.abstract_syntax.specs.Expressions.{ExprTree, whole, joined, expr_place}
+use Rattle.abstract_syntax.specs.Expressions.{ExprTree, ExprTrees, whole, named, joined, apply, expr_place}
 use Rattle.run_journal.specs.declared.answer.Answer.{Answer}
 use Rattle.plans.specs.Plans.{onward, run, meaning}
 use Rattle.vdm_meaning.specs.Operators.{applied}
 use Rattle.vdm_meaning.specs.Expressions.{expr_in, plan_of, spent, value_or_fault, right_operand}
-use Rattle.vdm_meaning.proofs.Nodes.{meaning-zero-expr_in, meaning-whole, meaning-joined}
+use Rattle.vdm_meaning.proofs.Nodes.{meaning-zero-expr_in, meaning-whole, meaning-named, meaning-apply, meaning-joined}
 use Rattle.plain_meaning.specs.declared.evaluation.Outcome.{Outcome}
 use Rattle.plain_meaning.specs.declared.evaluation.Outcome.TheVariants.{Value, Failed}
 use Rattle.plain_meaning.specs.Outcomes.{meant_by, number_or_fault}
@@ -28,6 +29,12 @@ spent-comes tree units place e at answers = rw (e, at) (meaning-zero-expr_in tre
 
 pub whole-comes : (tree : ExprTree) (units left : ℕ) (n : ℤ) (place : Place) → tree ≡ whole n place → units ≡ suc left → ComesTo tree units (Value n left)
 whole-comes tree units left n place is e answers = rw (is, e) (meaning-whole n place answers left)
+
+pub named-comes : (tree : ExprTree) (units left : ℕ) (name : Name) (place : Place) → tree ≡ named name place → units ≡ suc left → ComesTo tree units (Failed Undefined place)
+named-comes tree units left name place is e answers = rw (is, e) (meaning-named name place answers left)
+
+pub apply-comes : (tree : ExprTree) (units left : ℕ) (head : ExprTree) (arguments : ExprTrees) (place : Place) → tree ≡ apply head arguments place → units ≡ suc left → ComesTo tree units (Failed Undefined place)
+apply-comes tree units left head arguments place is e answers = rw (is, e) (meaning-apply head arguments place answers left)
 
 module _ (tree : ExprTree) (units u : ℕ) (left : ExprTree) (operator : Operator) (right : ExprTree) (place : Place) (is : tree ≡ joined left operator right place) (e : units ≡ suc u) where
   after_left : (o : Outcome) → ComesTo left u o → (answers : List Answer) → meaning plan_of spent (expr_in tree) answers units ≡ onward (meant_by o answers) (λ a. run (meaning plan_of spent) (right_operand right operator place a))

@@ -1,3 +1,4 @@
+pub mod FewClasses
 pub mod Outcomes
 pub mod Standings
 pub mod Finishes

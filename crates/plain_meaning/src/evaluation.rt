@@ -46,6 +46,11 @@ pub(crate) fn outcome_of(tree: &Expr, units: u64) -> Outcome
             },
             failed => failed,
         },
+        // So far no accepted text evaluates either, and nothing gives them a value.
+        Expr::Name(_, place) | Expr::Apply(_, _, place) => Outcome::Failed {
+            fault: RunFault::Undefined,
+            place: *place,
+        },
     }
 }
 
@@ -54,7 +59,10 @@ fn place_of(tree: &Expr) -> Place
     ensures { result ≡ expr_place (view_of tree.now) }
 {
     match tree {
-        Expr::Whole(_, place) | Expr::Infix(_, _, _, place) => *place,
+        Expr::Whole(_, place)
+        | Expr::Name(_, place)
+        | Expr::Infix(_, _, _, place)
+        | Expr::Apply(_, _, place) => *place,
     }
 }
 

@@ -2,42 +2,56 @@
 
 ghost use Rattle.std.specs.Prelude.{◌≡◌, ◌↔◌, [], length, IsTrue};
 ghost use Rattle.run_journal.specs.Parts.{object_part, thread_part};
-ghost use Rattle.vdm_meaning.specs.Entries.{IsLegalAtObject, IsLegalForThread};
+ghost use Rattle.vdm_meaning.specs.Entries.{IsClassObject, IsLegalAtObject, IsLegalForThread};
 ghost use Rattle.vdm_meaning.specs.Runs.{IsLegal};
+ghost use Rattle.plain_meaning.specs.FewClasses.{HasFewClasses};
+ghost use Rattle.vdm_tree.specs.ClassView.{spec_view};
 ghost use Rattle.vdm_tree.specs.View.{view_of};
 
-use crate::standing::{IO, IO_OBJECT, Standing, thread_standing};
+use crate::classes::class_at;
+use crate::standing::{Standing, thread_standing};
 use crate::told::{stands_where_it_belongs, tells};
 use run_journal::{
     Deed, Entry, Thread, every_entry_gives_back, every_entry_is_made, made_where_fits,
 };
 use std::alloc::Global;
-use vdm_tree::Expr;
+use vdm_kinds::Name;
+use vdm_tree::{Expr, Spec};
 
 /// Whether the entry may stand behind those before it: at its object, and for its thread.
 pub(crate) fn is_legal(
     alloc: Global,
+    spec: &Spec,
     tree: &Expr,
     units: u64,
     before: &[Entry],
     entry: &Entry,
 ) -> bool
-    ensures { IsTrue result ↔ IsLegal (view_of tree.now) units before.now entry.now }
+    requires { HasFewClasses (spec_view spec.now) }
+    ensures { IsTrue result ↔ IsLegal (spec_view spec.now) (view_of tree.now) units before.now entry.now }
 {
-    is_legal_at_object(before, entry) && is_legal_for_thread(alloc, tree, units, before, entry)
+    is_legal_at_object(spec, before, entry)
+        && is_legal_for_thread(alloc, spec, tree, units, before, entry)
 }
 
 /// Whether the entry may stand behind those of its object.
-fn is_legal_at_object(before: &[Entry], entry: &Entry) -> bool
-    ensures { IsTrue result ↔ IsLegalAtObject entry.now.object (object_part entry.now.object before.now) entry.now.deed }
+fn is_legal_at_object(spec: &Spec, before: &[Entry], entry: &Entry) -> bool
+    ensures { IsTrue result ↔ IsLegalAtObject (spec_view spec.now) entry.now.object (object_part entry.now.object before.now) entry.now.deed }
 {
     match &entry.deed {
         Deed::Class { class, .. } => {
-            is_untouched(entry.object, before) && *class == IO && entry.object == IO_OBJECT
+            is_untouched(entry.object, before) && is_class_object(spec, entry.object, *class)
         }
         Deed::End { .. } | Deed::Fail { .. } => !is_untouched(entry.object, before),
         _ => false,
     }
+}
+
+/// Whether the object is the class object of the class.
+fn is_class_object(spec: &Spec, object: u32, class: Name) -> bool
+    ensures { IsTrue result ↔ IsClassObject (spec_view spec.now) object class }
+{
+    class_at(spec, object as usize) == Some(class)
 }
 
 /// Whether none of the entries stands on the object.
@@ -60,19 +74,21 @@ fn count_on(object: u32, entries: &[Entry]) -> usize
 /// Whether the entry tells what its thread asks behind its own entries.
 fn is_legal_for_thread(
     alloc: Global,
+    spec: &Spec,
     tree: &Expr,
     units: u64,
     before: &[Entry],
     entry: &Entry,
 ) -> bool
-    ensures { IsTrue result ↔ IsLegalForThread (view_of tree.now) units entry.now.thread (thread_part entry.now.thread before.now) entry.now }
+    requires { HasFewClasses (spec_view spec.now) }
+    ensures { IsTrue result ↔ IsLegalForThread (spec_view spec.now) (view_of tree.now) units entry.now.thread (thread_part entry.now.thread before.now) entry.now }
 {
     // These laws say that an entry is made of its own question alone, so that comparing questions is enough.
     every_entry_is_made();
     every_entry_gives_back();
     made_where_fits();
     let count = count_by(entry.thread, before);
-    match thread_standing(alloc, tree, units, entry.thread, count) {
+    match thread_standing(alloc, spec, tree, units, entry.thread, count) {
         Standing::Asks(question) => tells(entry, &question) && stands_where_it_belongs(entry),
         Standing::Over => false,
     }

@@ -1,6 +1,7 @@
 //! The plain slow program: what a thread asks next, and which lists of entries are runs, worked out from the start each time.
 #![tactic(auto)]
 
+mod classes;
 mod evaluation;
 mod finish;
 mod legal_entry;

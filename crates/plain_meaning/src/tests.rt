@@ -1,11 +1,15 @@
 // Small sums with each number of units, lists of entries that are runs and that are none, and how lists end.
 
+ghost use Rattle.std.specs.Prelude.{IfOk};
+ghost use Rattle.plain_meaning.specs.FewClasses.{HasFewClasses};
+ghost use Rattle.vdm_tree.specs.ClassView.{spec_view};
+
 use crate::{Finish, Standing, finish_of, is_run, next_question};
 use run_journal::{Answer, Deed, Entry, EntryList, Question, Thread};
 use std::alloc::Global;
 use std::test::Fail;
 use vdm_kinds::{Name, Operator, OutOfMemory, Part, Place, RunFault};
-use vdm_tree::Expr;
+use vdm_tree::{ClassDef, Expr, Spec};
 use vdm_values::{Node, Slot, SlotList, Value};
 
 const GREATEST: i128 = 170_141_183_460_469_231_731_687_303_715_884_105_727;
@@ -33,6 +37,30 @@ fn sum_of_two(alloc: Global, left: i128, right: i128) -> Result<Expr, OutOfMemor
     sum(alloc, whole(left, 1), 2, whole(right, 3))
 }
 
+// A specification of no class.
+fn empty(alloc: Global) -> Spec
+    ensures { HasFewClasses (spec_view result) }
+{
+    Spec {
+        classes: Vec::new(alloc),
+    }
+}
+
+// A specification of one class, of any name but that of `IO`.
+fn one_class(alloc: Global, name: Name) -> Result<Spec, OutOfMemory>
+    ensures { IfOk result (λ s. HasFewClasses (spec_view s)) }
+{
+    let class = ClassDef {
+        name,
+        name_place: at(7),
+        blocks: Vec::new(alloc),
+        place: at(1),
+    };
+    Ok(Spec {
+        classes: vec![in alloc; class]?,
+    })
+}
+
 fn held(number: i128) -> Slot {
     Slot::Held(Value::new(Node::Int(number)))
 }
@@ -40,7 +68,8 @@ fn held(number: i128) -> Slot {
 // What a question is, as far as the tests tell questions apart.
 #[derive(Clone, Copy, Debug, PartialEq)]
 enum Asked {
-    ToMakeIo,
+    // The object and the class.
+    ToMake(u32, Name),
     ToEnd(i128),
     ToFail(RunFault, u32),
     Other,
@@ -49,10 +78,10 @@ enum Asked {
 fn kind_of(question: &Question) -> Asked {
     match question {
         Question::Class {
-            object: 0,
-            class: Name(0),
+            object,
+            class,
             values,
-        } if values.is_empty() => Asked::ToMakeIo,
+        } if values.is_empty() => Asked::ToMake(*object, *class),
         Question::End {
             value: Slot::Held(value),
         } => match value.node() {
@@ -71,16 +100,19 @@ fn kind_of(question: &Question) -> Asked {
 // What main asks after so many answers, or `None` where it is over.
 fn asked_after(
     alloc: Global,
+    spec: &Spec,
     tree: &Expr,
     units: u64,
     count: usize,
-) -> Result<Option<Asked>, OutOfMemory> {
+) -> Result<Option<Asked>, OutOfMemory>
+    requires { HasFewClasses (spec_view spec.now) }
+{
     let mut answers = Vec::new(alloc);
     for _ in 0..count {
         answers.push(Answer::Done)?;
     }
     Ok(
-        match next_question(alloc, tree, units, answers.as_slice())? {
+        match next_question(alloc, spec, tree, units, answers.as_slice())? {
             Standing::Asks(question) => Some(kind_of(&question)),
             Standing::Over => None,
         },
@@ -92,8 +124,8 @@ fn main_asks_for_io_then_to_end_or_fail_and_is_over(rt: HostRuntime) -> Result<(
     let alloc = rt.alloc();
     let tree = sum_of_two(alloc, 1, 1)?;
     let rows = [
-        (3, 0, Some(Asked::ToMakeIo)),
-        (0, 0, Some(Asked::ToMakeIo)),
+        (3, 0, Some(Asked::ToMake(0, Name(0)))),
+        (0, 0, Some(Asked::ToMake(0, Name(0)))),
         (4, 1, Some(Asked::ToEnd(2))),
         (3, 1, Some(Asked::ToEnd(2))),
         (2, 1, Some(Asked::ToFail(RunFault::StepLimit, 3))),
@@ -104,9 +136,66 @@ fn main_asks_for_io_then_to_end_or_fail_and_is_over(rt: HostRuntime) -> Result<(
         (3, 3, None),
     ];
     for (units, count, wanted) in rows {
-        let asked = asked_after(alloc, &tree, units, count)?;
+        let asked = asked_after(alloc, &empty(alloc), &tree, units, count)?;
         assert_eq!(rt; asked, wanted, "with {units} units, after {count} answers");
     }
+    Ok(())
+}
+
+#[test]
+fn main_asks_for_each_class(rt: HostRuntime) -> Result<(), Fail> {
+    let alloc = rt.alloc();
+    let spec = one_class(alloc, Name(7))?;
+    let tree = sum_of_two(alloc, 1, 1)?;
+    let rows = [
+        (3, 0, Some(Asked::ToMake(0, Name(0)))),
+        (3, 1, Some(Asked::ToMake(1, Name(7)))),
+        (0, 1, Some(Asked::ToMake(1, Name(7)))),
+        (3, 2, Some(Asked::ToEnd(2))),
+        (2, 2, Some(Asked::ToFail(RunFault::StepLimit, 3))),
+        (3, 3, None),
+        (3, 4, None),
+    ];
+    for (units, count, wanted) in rows {
+        let asked = asked_after(alloc, &spec, &tree, units, count)?;
+        assert_eq!(rt; asked, wanted, "with {units} units, after {count} answers");
+    }
+    Ok(())
+}
+
+// The name in the first column.
+fn name() -> Expr {
+    Expr::Name(Name(3), at(1))
+}
+
+// The name applied to nothing, as `x()`.
+fn applied(alloc: Global) -> Result<Expr, OutOfMemory> {
+    Ok(Expr::Apply(Box::new(alloc, name())?, Vec::new(alloc), at(2)))
+}
+
+#[test]
+fn a_name_and_an_application_are_undefined(rt: HostRuntime) -> Result<(), Fail> {
+    let alloc = rt.alloc();
+    for (units, fault) in [(0, RunFault::StepLimit), (1, RunFault::Undefined)] {
+        let asked = asked_after(alloc, &empty(alloc), &name(), units, 1)?;
+        assert_eq!(rt; asked, Some(Asked::ToFail(fault, 1)));
+        let asked = asked_after(alloc, &empty(alloc), &applied(alloc)?, units, 1)?;
+        assert_eq!(rt; asked, Some(Asked::ToFail(fault, 2)));
+    }
+    Ok(())
+}
+
+#[test]
+fn an_undefined_operand_fails_at_its_place(rt: HostRuntime) -> Result<(), Fail> {
+    let alloc = rt.alloc();
+    let tree = sum(alloc, name(), 2, whole(1, 3))?;
+    let asked = asked_after(alloc, &empty(alloc), &tree, 2, 1)?;
+    assert_eq!(rt; asked, Some(Asked::ToFail(RunFault::Undefined, 1)));
+    let tree = sum(alloc, whole(1, 3), 4, applied(alloc)?)?;
+    let asked = asked_after(alloc, &empty(alloc), &tree, 3, 1)?;
+    assert_eq!(rt; asked, Some(Asked::ToFail(RunFault::Undefined, 2)));
+    let asked = asked_after(alloc, &empty(alloc), &tree, 2, 1)?;
+    assert_eq!(rt; asked, Some(Asked::ToFail(RunFault::StepLimit, 2)));
     Ok(())
 }
 
@@ -122,7 +211,7 @@ fn sums_have_128_bits(rt: HostRuntime) -> Result<(), Fail> {
     ];
     for (left, right, wanted) in rows {
         let tree = sum_of_two(alloc, left, right)?;
-        let asked = asked_after(alloc, &tree, 3, 1)?;
+        let asked = asked_after(alloc, &empty(alloc), &tree, 3, 1)?;
         assert_eq!(rt; asked, Some(wanted), "{left} + {right}");
     }
     Ok(())
@@ -141,11 +230,11 @@ fn a_sum_of_three_takes_its_nodes_from_the_left(rt: HostRuntime) -> Result<(), F
         (0, Asked::ToFail(RunFault::StepLimit, 4)),
     ];
     for (units, wanted) in rows {
-        let asked = asked_after(alloc, &tree, units, 1)?;
+        let asked = asked_after(alloc, &empty(alloc), &tree, units, 1)?;
         assert_eq!(rt; asked, Some(wanted), "with {units} units");
     }
     let early = sum(alloc, sum_of_two(alloc, GREATEST, 1)?, 4, whole(3, 5))?;
-    let asked = asked_after(alloc, &early, 5, 1)?;
+    let asked = asked_after(alloc, &empty(alloc), &early, 5, 1)?;
     assert_eq!(rt; asked, Some(Asked::ToFail(RunFault::Overflow, 2)));
     Ok(())
 }
@@ -179,6 +268,10 @@ fn of_main(told: Told) -> Row {
 
 fn made_io() -> Row {
     of_main(Told::Class(0, 0))
+}
+
+fn made(object: u32, name: u32) -> Row {
+    on(object, of_main(Told::Class(name, 0)))
 }
 
 fn ended(number: i128) -> Row {
@@ -242,10 +335,58 @@ fn entries_of(alloc: Global, rows: &[Row]) -> Result<EntryList, OutOfMemory> {
     Ok(EntryList::from_vec(entries))
 }
 
-// Whether the entries are a run of `1+1`.
+// Whether the entries are a run of `1+1` where the specification is empty.
 fn runs(alloc: Global, units: u64, rows: &[Row]) -> Result<bool, OutOfMemory> {
+    runs_beside(alloc, &empty(alloc), units, rows)
+}
+
+// Whether the entries are a run of `1+1`.
+fn runs_beside(alloc: Global, spec: &Spec, units: u64, rows: &[Row]) -> Result<bool, OutOfMemory>
+    requires { HasFewClasses (spec_view spec.now) }
+{
     let tree = sum_of_two(alloc, 1, 1)?;
-    is_run(alloc, &tree, units, &entries_of(alloc, rows)?)
+    is_run(alloc, spec, &tree, units, &entries_of(alloc, rows)?)
+}
+
+#[test]
+fn each_front_of_the_class_entries_and_the_end_is_a_run(rt: HostRuntime) -> Result<(), Fail> {
+    let alloc = rt.alloc();
+    let spec = one_class(alloc, Name(7))?;
+    let rows = [made_io(), made(1, 7), ended(2)];
+    for count in 0..4 {
+        assert!(rt;
+            runs_beside(alloc, &spec, 3, &rows[..count])?,
+            "{count} entries"
+        );
+    }
+    let failing = [made_io(), made(1, 7), failed(RunFault::StepLimit, 3)];
+    assert!(rt; runs_beside(alloc, &spec, 2, &failing)?);
+    Ok(())
+}
+
+#[test]
+fn a_class_entry_left_out_or_changed_makes_no_run(rt: HostRuntime) -> Result<(), Fail> {
+    let alloc = rt.alloc();
+    let spec = one_class(alloc, Name(7))?;
+    let rows: [(&[Row], &str); 9] = [
+        (&[made_io(), ended(2)], "left out"),
+        (&[made(1, 7), ended(2)], "`IO` left out"),
+        (&[made(1, 7), made_io(), ended(2)], "out of order"),
+        (&[made_io(), made(2, 7)], "a later number"),
+        (&[made_io(), made(0, 7)], "the number of `IO`"),
+        (&[made_io(), made(1, 8)], "another class"),
+        (&[made_io(), made(1, 0)], "`IO` again"),
+        (&[made_io(), made(1, 7), made(2, 7)], "made twice"),
+        (
+            &[made_io(), made(1, 7), on(1, ended(2))],
+            "an end on its object",
+        ),
+    ];
+    for (rows, what) in rows {
+        assert!(rt; !runs_beside(alloc, &spec, 3, rows)?, "{what}");
+    }
+    assert!(rt; !runs(alloc, 3, &[made_io(), made(1, 7)])?, "no such class");
+    Ok(())
 }
 
 #[test]

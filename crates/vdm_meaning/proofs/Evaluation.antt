@@ -5,7 +5,7 @@ use Rattle.vdm_kinds.specs.declared.operator.Operator.{Operator}
 use Rattle.vdm_kinds.specs.declared.place.Place.{Place}
 use Rattle.vdm_kinds.specs.declared.run_fault.RunFault.{RunFault}
 use Rattle.abstract_syntax.specs.Values.{ValueTree, number}
-use Rattle.abstract_syntax.specs.Expressions.{ExprTree, whole, joined}
+use Rattle.abstract_syntax.specs.Expressions.{ExprTree, whole, named, joined, apply}
 use Rattle.run_journal.specs.declared.answer.Answer.{Answer}
 use Rattle.run_journal.specs.declared.question.Question.{Question}
 use Rattle.plans.specs.Plans.{Outcome, gives, faults, onward, run, meaning}
@@ -13,7 +13,7 @@ use Rattle.vdm_meaning.specs.Faults.{Fault}
 use Rattle.vdm_meaning.specs.Operators.{applied}
 use Rattle.vdm_meaning.specs.Valuation.{nodes, placed, joined_value, value_of}
 use Rattle.vdm_meaning.specs.Expressions.{expr_in, plan_of, spent, right_operand, value_or_fault}
-use Rattle.vdm_meaning.proofs.Nodes.{meaning-whole, meaning-joined}
+use Rattle.vdm_meaning.proofs.Nodes.{meaning-whole, meaning-named, meaning-apply, meaning-joined}
 
 -- a value gives with the answers and units that are left, a fault faults with the answers
 abbrev pub outcome_of : Result ValueTree Fault → List Answer → ℕ → Outcome ValueTree Question Answer Fault
@@ -43,6 +43,10 @@ fewer u a b h = (omega arith, omega arith, omega arith)
 pub meaning-expr_in : (tree : ExprTree) (bs : List Answer) (u : ℕ) → nodes tree ≤ u → meaning plan_of spent (expr_in tree) bs u ≡ outcome_of (value_of tree) bs (u - nodes tree)
 meaning-expr_in (whole n place) bs zero h = absurd (omega arith)
 meaning-expr_in (whole n place) bs (suc u) h = meaning-whole n place bs u ∙ ap (gives (number n) bs) (omega arith)
+meaning-expr_in (named name place) bs zero h = absurd (omega arith)
+meaning-expr_in (named name place) bs (suc u) h = meaning-named name place bs u
+meaning-expr_in (apply head arguments place) bs zero h = absurd (omega arith)
+meaning-expr_in (apply head arguments place) bs (suc u) h = meaning-apply head arguments place bs u
 meaning-expr_in (joined left operator right place) bs zero h = absurd (omega arith)
 meaning-expr_in (joined left operator right place) bs (suc u) h =
     let f = fewer u (nodes left) (nodes right) h in

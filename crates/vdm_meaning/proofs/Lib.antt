@@ -1,8 +1,10 @@
 pub mod Numbers
 pub mod Nodes
 pub mod Evaluation
+pub mod Making
 pub mod Asking
 pub mod Fronts
 pub mod OneRun
+pub mod ClassObjects
 pub mod Finishing
 pub mod Worked

@@ -1,6 +1,7 @@
 -- Which entry may stand behind others: at its object, and for its thread.
-use Rattle.std.specs.Prelude.{◌≡◌, ◌≢◌, ℕ, List, [], map, Some}
-use Rattle.vdm_kinds.specs.declared.names.Name.{Name}
+use Rattle.std.specs.Prelude.{◌≡◌, ◌≢◌, ℕ, List, [], map, Some, slice_get}
+use Rattle.vdm_kinds.specs.declared.name.Name.{Name}
+use Rattle.abstract_syntax.specs.Classes.{SpecTree}
 use Rattle.abstract_syntax.specs.Expressions.{ExprTree}
 use Rattle.run_journal.specs.declared.answer.Answer.{Answer}
 use Rattle.run_journal.specs.declared.deed.Deed.{Deed}
@@ -10,29 +11,29 @@ use Rattle.run_journal.specs.declared.question.Question.{Question}
 use Rattle.run_journal.specs.declared.thread.Thread.{Thread}
 use Rattle.run_journal.specs.declared.thread.Thread.TheVariants.{Main}
 use Rattle.run_journal.specs.Made.{made, Fits, answer_of}
-use Rattle.vdm_meaning.specs.Main.{Standing, asks, over, main_code, io, io_object}
+use Rattle.vdm_meaning.specs.Main.{Standing, asks, over, main_code, classes_of}
 
--- the object is the class object of the class: so far there is `IO` alone
-abbrev pub IsClassObject : ℕ → Name → Type 0
-IsClassObject object class = (class ≡ io) × (object ≡ io_object)
+-- the object is the class object of the class: the numbers of class objects are the places of their classes
+abbrev pub IsClassObject : SpecTree → ℕ → Name → Type 0
+IsClassObject spec object class = slice_get (classes_of spec) object ≡ Some class
 
 -- A deed is legal on an object behind the object's entries. Deeds that no code asks for yet are never.
-abbrev pub IsLegalAtObject : ℕ → List Entry → Deed → Type 0
-IsLegalAtObject object before (Class class values) = (before ≡ []) × IsClassObject object class
-IsLegalAtObject object before (End value) = before ≢ []
-IsLegalAtObject object before (Fail fault exit place) = before ≢ []
-IsLegalAtObject object before _ = ⊥
+abbrev pub IsLegalAtObject : SpecTree → ℕ → List Entry → Deed → Type 0
+IsLegalAtObject spec object before (Class class values) = (before ≡ []) × IsClassObject spec object class
+IsLegalAtObject spec object before (End value) = before ≢ []
+IsLegalAtObject spec object before (Fail fault exit place) = before ≢ []
+IsLegalAtObject spec object before _ = ⊥
 
 -- where a thread stands after its answers: so far main alone is born
-abbrev pub code_of : ExprTree → ℕ → Thread → List Answer → Standing
-code_of tree units Main answers = main_code tree units answers
-code_of tree units _ answers = over
+abbrev pub code_of : SpecTree → ExprTree → ℕ → Thread → List Answer → Standing
+code_of spec tree units Main answers = main_code spec tree units answers
+code_of spec tree units _ answers = over
 
 -- An entry is legal for a thread behind the thread's entries: it is made of the question that the thread's code needs
 -- after their answers, and of an answer that fits it. So nothing stands behind the thread's end or failure.
-pub record IsLegalForThread (tree : ExprTree) (units : ℕ) (thread : Thread) (before : List Entry) (entry : Entry) : Type 0 where
+pub record IsLegalForThread (spec : SpecTree) (tree : ExprTree) (units : ℕ) (thread : Thread) (before : List Entry) (entry : Entry) : Type 0 where
   pub question : Question
   pub answer : Answer
-  pub asked : code_of tree units thread (map answer_of before) ≡ asks question
+  pub asked : code_of spec tree units thread (map answer_of before) ≡ asks question
   pub fits : Fits question answer
   pub made_of : made thread question answer ≡ Some entry

@@ -5,3 +5,4 @@ pub mod Valuation
 pub mod Main
 pub mod Entries
 pub mod Runs
+pub mod ClassEntries

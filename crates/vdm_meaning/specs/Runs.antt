@@ -3,6 +3,7 @@ use Rattle.std.specs.Prelude.{ℕ, List, [], ◌∷◌, ◌++◌, Option, Some, 
 use Rattle.vdm_kinds.specs.declared.place.Place.{Place}
 use Rattle.vdm_kinds.specs.declared.run_fault.RunFault.{RunFault}
 use Rattle.vdm_values.specs.declared.slot.Slot.{Slot}
+use Rattle.abstract_syntax.specs.Classes.{SpecTree}
 use Rattle.abstract_syntax.specs.Expressions.{ExprTree}
 use Rattle.run_journal.specs.declared.deed.Deed.{Deed}
 use Rattle.run_journal.specs.declared.deed.Deed.TheVariants.{End, Fail}
@@ -13,18 +14,18 @@ use Rattle.run_journal.specs.Parts.{object_part, thread_part}
 use Rattle.vdm_meaning.specs.Entries.{IsLegalAtObject, IsLegalForThread}
 
 -- an entry is legal behind others: at its object behind that object's, and for its thread behind that thread's
-pub record IsLegal (tree : ExprTree) (units : ℕ) (before : List Entry) (entry : Entry) : Type 0 where
-  pub at_object : IsLegalAtObject entry.object (object_part entry.object before) entry.deed
-  pub for_thread : IsLegalForThread tree units entry.thread (thread_part entry.thread before) entry
+pub record IsLegal (spec : SpecTree) (tree : ExprTree) (units : ℕ) (before : List Entry) (entry : Entry) : Type 0 where
+  pub at_object : IsLegalAtObject spec entry.object (object_part entry.object before) entry.deed
+  pub for_thread : IsLegalForThread spec tree units entry.thread (thread_part entry.thread before) entry
 
 -- each of the entries is legal behind those before it
-abbrev pub AreLegal : ExprTree → ℕ → List Entry → List Entry → Type 0
-AreLegal tree units before [] = Unit {0}
-AreLegal tree units before (entry ∷ entries) = IsLegal tree units before entry × AreLegal tree units (before ++ entry ∷ []) entries
+abbrev pub AreLegal : SpecTree → ExprTree → ℕ → List Entry → List Entry → Type 0
+AreLegal spec tree units before [] = Unit {0}
+AreLegal spec tree units before (entry ∷ entries) = IsLegal spec tree units before entry × AreLegal spec tree units (before ++ entry ∷ []) entries
 
--- a run of an expression, whose threads have this many units each
-abbrev pub IsRun : ExprTree → ℕ → List Entry → Type 0
-IsRun tree units entries = AreLegal tree units [] entries
+-- a run of a specification and an expression, whose threads have this many units each
+abbrev pub IsRun : SpecTree → ExprTree → ℕ → List Entry → Type 0
+IsRun spec tree units entries = AreLegal spec tree units [] entries
 
 -- how a run ends: main's value, or a thread's fault
 pub data Finish : Type 0 where

@@ -3,14 +3,17 @@ use Rattle.std.specs.Prelude.{ℕ, ◌+◌, Result, Ok, Err}
 use Rattle.vdm_kinds.specs.declared.operator.Operator.{Operator}
 use Rattle.vdm_kinds.specs.declared.place.Place.{Place}
 use Rattle.vdm_kinds.specs.declared.run_fault.RunFault.{RunFault}
+use Rattle.vdm_kinds.specs.declared.run_fault.RunFault.TheVariants.{Undefined}
 use Rattle.abstract_syntax.specs.Values.{ValueTree, number}
-use Rattle.abstract_syntax.specs.Expressions.{ExprTree, whole, joined}
+use Rattle.abstract_syntax.specs.Expressions.{ExprTree, whole, named, joined, apply}
 use Rattle.vdm_meaning.specs.Faults.{Fault, fault_at}
 use Rattle.vdm_meaning.specs.Operators.{applied}
 
--- how many nodes an expression has
+-- how many nodes of an expression are entered
 abbrev pub nodes : ExprTree → ℕ
 nodes (whole n place) = 1
+nodes (named name place) = 1
+nodes (apply head arguments place) = 1
 nodes (joined left operator right place) = 1 + (nodes left + nodes right)
 
 -- the fault of an operator has the operator's place
@@ -27,4 +30,6 @@ joined_value operator place (Ok a) (Ok b) = placed place (applied operator a b)
 -- the value of an expression, or its fault
 abbrev pub value_of : ExprTree → Result ValueTree Fault
 value_of (whole n place) = Ok (number n)
+value_of (named name place) = Err (fault_at Undefined place)
+value_of (apply head arguments place) = Err (fault_at Undefined place)
 value_of (joined left operator right place) = joined_value operator place (value_of left) (value_of right)

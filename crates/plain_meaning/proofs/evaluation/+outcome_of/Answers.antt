@@ -1,9 +1,9 @@
-use Rattle.std.proofs.Common.{rules, ap, ◌∙◌, FitsSigned}
+use Rattle.std.proofs.Common.{rules, ap, inl, inr, ◌∙◌, FitsSigned}
 use mir.Syntax.{w128}
 use Rattle.std.proofs.lemmas.Int.{to_z-of_z}
 use Rattle.vdm_tree.specs.View.{view_of}
-use Rattle.plain_meaning.proofs.Views.{view_of-Whole, view_of-Infix}
-use Rattle.plain_meaning.proofs.Outcomes.{spent-comes, whole-comes, left-fails, right-fails, operator-gives}
+use Rattle.plain_meaning.proofs.Views.{view_of-Whole, view_of-Name, view_of-Apply, view_of-Infix}
+use Rattle.plain_meaning.proofs.Outcomes.{spent-comes, whole-comes, named-comes, apply-comes, left-fails, right-fails, operator-gives}
 use Rattle.plain_meaning.proofs.evaluation.+outcome_of.Goals as goal
 
 pub returns-in_default : goal.returns-in_default
@@ -13,6 +13,13 @@ pub returns-in-Whole : goal.returns-in-Whole
 returns-in-Whole t c =
     let fits : FitsSigned w128 c.in-Whole.number = search rules in
     rw (to_z-of_z w128 c.in-Whole.number fits) (whole-comes _ _ _ _ _ (ap view_of c.in-Whole.is ∙ view_of-Whole _ _) c.in-Some.ensures)
+
+pub returns-in-Name : goal.returns-in-Name
+returns-in-Name t c =
+    elim c.in-Name.is [
+      | inl n ↦ named-comes _ _ _ _ _ (ap view_of n.1 ∙ view_of-Name _ _) c.in-Some.ensures
+      | inr a ↦ apply-comes _ _ _ _ _ _ (ap view_of a.2 ∙ view_of-Apply _ _ _) c.in-Some.ensures
+    ]
 
 pub returns-in-Value-outcome_of : goal.returns-in-Value-outcome_of
 returns-in-Value-outcome_of t c =

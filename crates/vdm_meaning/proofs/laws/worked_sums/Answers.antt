@@ -1,4 +1,4 @@
-use Rattle.vdm_meaning.proofs.Worked.{one_and_one, one_and_one-over, too_few_units, one_too_many}
+use Rattle.vdm_meaning.proofs.Worked.{one_and_one, one_and_one-over, too_few_units, one_too_many, beside_a_class, beside_a_class-over}
 use Rattle.vdm_meaning.proofs.laws.worked_sums.Goals as goal
 
 pub returns-clause-ends : goal.returns-clause-ends
@@ -12,3 +12,9 @@ returns-clause-too_few_units c = too_few_units
 
 pub returns-clause-overflows : goal.returns-clause-overflows
 returns-clause-overflows c = one_too_many
+
+pub returns-clause-ends_beside_a_class : goal.returns-clause-ends_beside_a_class
+returns-clause-ends_beside_a_class c = beside_a_class
+
+pub returns-clause-stops_beside_a_class : goal.returns-clause-stops_beside_a_class
+returns-clause-stops_beside_a_class c = beside_a_class-over
