@@ -2,11 +2,12 @@
 use Rattle.std.specs.Prelude.{◌≡◌, ℕ, ◌+◌, ◌≤◌, ◌⊎◌, List, [], length, take, drop, Some, IsSome}
 use Rattle.std.proofs.Common.{refl, sym, ap, ◌∙◌, subst, arith, inl, inr, length-take, take_all}
 use Rattle.std.proofs.lemmas.List.{drop_all}
+use Rattle.abstract_syntax.specs.Classes.{SpecTree}
 use Rattle.abstract_syntax.specs.Expressions.{ExprTree}
 use Rattle.run_journal.specs.declared.entry.Entry.{Entry}
 use Rattle.vdm_kinds.specs.declared.spec_fault.SpecFault.{SpecFault}
-use Rattle.vdm_grammar.specs.Texts.{HasTree, IsFirstRefusal, IsSpecification, spec_limit}
-use Rattle.vdm_grammar.proofs.Sums.{one_spelled}
+use Rattle.vdm_grammar.specs.Texts.{IsAccepted, IsFirstRefusal, spec_limit}
+use Rattle.vdm_grammar.proofs.Refusals.{one_accepted, one_refusal, not_both}
 use Rattle.vdm_meaning.specs.Main.{step_limit}
 use Rattle.vdm_meaning.specs.Runs.{IsRun}
 use Rattle.report_texts.specs.Words.{IsRunCommand, IsNoCommand}
@@ -15,7 +16,7 @@ use Rattle.vdm_cli.specs.declared.end.End.TheVariants.{Ended, Refused, Usage, Fa
 use Rattle.vdm_cli.specs.Ends.{finish_in}
 use Rattle.vdm_cli.specs.Meant.{Outside, IsFaulty, WasRead, Runs, MeansRun, MeansUsage, Means}
 use Rattle.vdm_cli.specs.Written.{Wrote}
-use Rattle.vdm_cli.specs.Headline.{StandsFor, KeepsTexts, KeepsJournal}
+use Rattle.vdm_cli.specs.Headline.{StandsFor, RunsOfRead, KeepsTexts, KeepsJournal}
 
 -- what was written stands for what is meant
 pub wrote_stands : (journal : List Entry) (meant : End) (sink : Outside) (end : End) → Wrote journal meant sink end → StandsFor end meant
@@ -60,21 +61,6 @@ means_run words source journal (Refused fault) text p m = subst (λ t. MeansRun 
 means_run words source journal (Failed fault exit thread place) text p m = subst (λ t. MeansRun source t journal (Failed fault exit thread place)) (same_text words m.0 text m.1 p) m.2
 means_run words source journal ReadFault text p m = subst (λ t. MeansRun source t journal ReadFault) (same_text words m.0 text m.1 p) m.2
 
--- a text has one tree
-same_tree : (text : List ℕ) (a b : ExprTree) → HasTree text a → HasTree text b → a ≡ b
-same_tree text a b h k = let e = h.spelled in let f = k.spelled in one_spelled a b h.grouped k.grouped cc
-
--- two texts that are run have no refusal, and two that are not have one
-not_both : (spec text : List ℕ) (fault : SpecFault) (tree : ExprTree) → IsFirstRefusal spec text fault → IsSpecification spec → HasTree text tree → ⊥
-not_both spec text fault tree (inl r) s h = r.0 s
-not_both spec text fault tree (inr r) s h = r.1 tree h
-
-same_refusal : (spec text : List ℕ) (a b : SpecFault) → IsFirstRefusal spec text a → IsFirstRefusal spec text b → a ≡ b
-same_refusal spec text a b (inl r) (inl q) = r.1 ∙ sym q.1
-same_refusal spec text a b (inl r) (inr q) = absurd (r.0 q.0)
-same_refusal spec text a b (inr r) (inl q) = absurd (q.0 r.0)
-same_refusal spec text a b (inr r) (inr q) = r.2 ∙ sym q.2
-
 -- what was read of bytes that are told is one text
 same_read : (source : Outside) (told a b : List ℕ) → source.before ≡ Some told → WasRead source a → WasRead source b → a ≡ b
 same_read source told a b e p q = (p told e).0 ∙ sym ((q told e).0)
@@ -86,12 +72,12 @@ short_is_all n xs h = (take_all (n + 1) xs (omega arith), drop_all (n + 1) xs (o
 short_front : (n : ℕ) (xs : List ℕ) → length (take (n + 1) xs) ≤ n → length xs ≤ n
 short_front n xs h = let e = length-take (n + 1) xs in omega arith
 
-read_to_end : (source : Outside) (spec told : List ℕ) → source.before ≡ Some told → WasRead source spec → IsSpecification spec → (source.after ≡ Some []) × IsSpecification told
+read_to_end : (source : Outside) (spec told : List ℕ) → source.before ≡ Some told → WasRead source spec → length spec ≤ spec_limit → (source.after ≡ Some []) × (spec ≡ told)
 read_to_end source spec told e r s =
     let first = r told e in
-    let short : length (take (spec_limit + 1) told) ≤ spec_limit = subst (λ l. length l ≤ spec_limit) first.0 s.short in
+    let short : length (take (spec_limit + 1) told) ≤ spec_limit = subst (λ l. length l ≤ spec_limit) first.0 s in
     let all = short_is_all spec_limit told (short_front spec_limit told short) in
-    (first.1 ∙ ap Some all.1, subst IsSpecification (first.0 ∙ all.0) s)
+    (first.1 ∙ ap Some all.1, first.0 ∙ all.0)
 
 -- which ends are those of a run
 ran : (source : Outside) (text : List ℕ) (journal : List Entry) (meant : End) → IsSome (finish_in meant) → MeansRun source text journal meant → (spec : List ℕ) × (WasRead source spec × Runs spec text journal)
@@ -104,8 +90,8 @@ ran source text journal Usage f m = cc f
 ran source text journal ReadFault f m = cc f
 
 -- a specification that is told was read whole
-read_whole : (source : Outside) (spec told : List ℕ) → source.before ≡ Some told → WasRead source spec → IsSpecification told → spec ≡ told
-read_whole source spec told e r s = (r told e).0 ∙ (short_is_all spec_limit told s.short).0
+read_whole : (source : Outside) (spec told : List ℕ) → source.before ≡ Some told → WasRead source spec → length told ≤ spec_limit → spec ≡ told
+read_whole source spec told e r s = (r told e).0 ∙ (short_is_all spec_limit told s).0
 
 -- an end that want of memory means may stand for any
 stands_again : (end other : End) → StandsFor end OutOfMemory → StandsFor end other
@@ -162,30 +148,30 @@ refusal_meant : (source : Outside) (text spec told : List ℕ) (journal : List E
 refusal_meant source text spec told journal fault (Ended slot) calm e r f m =
     let same = same_read source told m.1.0 spec e m.1.1 r in
     let runs = subst (λ s. Runs s text journal) same m.1.2.0 in
-    absurd (not_both spec text fault runs.tree f runs.specification runs.expression)
+    absurd (not_both spec text fault runs.tree runs.expression f runs.accepted)
 refusal_meant source text spec told journal fault (Failed g exit thread place) calm e r f m =
     let same = same_read source told m.1.0 spec e m.1.1 r in
     let runs = subst (λ s. Runs s text journal) same m.1.2.0 in
-    absurd (not_both spec text fault runs.tree f runs.specification runs.expression)
+    absurd (not_both spec text fault runs.tree runs.expression f runs.accepted)
 refusal_meant source text spec told journal fault (Refused g) calm e r f m =
     let same = same_read source told m.1.0 spec e m.1.1 r in
-    inl (ap Refused (same_refusal spec text g fault (subst (λ s. IsFirstRefusal s text g) same m.1.2.0) f))
+    inl (ap Refused (one_refusal spec text g fault (subst (λ s. IsFirstRefusal s text g) same m.1.2.0) f))
 refusal_meant source text spec told journal fault OutOfMemory calm e r f m = inr refl
 refusal_meant source text spec told journal fault ReadFault calm e r f m = absurd (calm m.0)
 refusal_meant source text spec told journal fault WriteFault calm e r f m = absurd m.1.2
 refusal_meant source text spec told journal fault Usage calm e r f m = absurd m.1.2
 
 -- where both texts are accepted, an end of a run or want of memory is meant
-run_meant : (source : Outside) (text told : List ℕ) (journal : List Entry) (tree : ExprTree) (meant : End) → (IsFaulty source → ⊥) → source.before ≡ Some told → IsSpecification told → HasTree text tree → MeansRun source text journal meant → IsSome (finish_in meant) ⊎ (meant ≡ OutOfMemory)
-run_meant source text told journal tree (Ended slot) calm e s h m = inl refl
-run_meant source text told journal tree (Failed g exit thread place) calm e s h m = inl refl
-run_meant source text told journal tree (Refused g) calm e s h m =
-    let same = read_whole source m.1.0 told e m.1.1 s in
-    absurd (not_both told text g tree (subst (λ x. IsFirstRefusal x text g) same m.1.2.0) s h)
-run_meant source text told journal tree OutOfMemory calm e s h m = inr refl
-run_meant source text told journal tree ReadFault calm e s h m = absurd (calm m.0)
-run_meant source text told journal tree WriteFault calm e s h m = absurd m.1.2
-run_meant source text told journal tree Usage calm e s h m = absurd m.1.2
+run_meant : (source : Outside) (text told : List ℕ) (journal : List Entry) (tree : SpecTree) (expression : ExprTree) (meant : End) → (IsFaulty source → ⊥) → source.before ≡ Some told → IsAccepted told text tree expression → MeansRun source text journal meant → IsSome (finish_in meant) ⊎ (meant ≡ OutOfMemory)
+run_meant source text told journal tree expression (Ended slot) calm e h m = inl refl
+run_meant source text told journal tree expression (Failed g exit thread place) calm e h m = inl refl
+run_meant source text told journal tree expression (Refused g) calm e h m =
+    let same = read_whole source m.1.0 told e m.1.1 h.specification.short in
+    absurd (not_both told text g tree expression (subst (λ x. IsFirstRefusal x text g) same m.1.2.0) h)
+run_meant source text told journal tree expression OutOfMemory calm e h m = inr refl
+run_meant source text told journal tree expression ReadFault calm e h m = absurd (calm m.0)
+run_meant source text told journal tree expression WriteFault calm e h m = absurd m.1.2
+run_meant source text told journal tree expression Usage calm e h m = absurd m.1.2
 
 pub keeps_texts : (words : List (List ℕ)) (source : Outside) (journal : List Entry) (sink : Outside) (meant end : End) → Means words source journal meant → Wrote journal meant sink end → KeepsTexts words source end
 keeps_texts words source journal sink meant end m w =
@@ -205,59 +191,62 @@ keeps_texts words source journal sink meant end m w =
           let g = subst (λ x. IsSome (finish_in x)) is f in
           let t = finished_text words source journal meant g m in
           let runs = ran source t.0 journal meant g t.1.1 in
-          let all = read_to_end source runs.0 told e runs.1.0 runs.1.1.specification in
-          (all.0, all.1, (t.0, runs.1.1.tree, t.1.0, runs.1.1.expression));
-      finishes = λ text told tree p calm e s h.
-          elim (run_meant source text told journal tree meant calm e s h (means_run words source journal meant text p m)) [
+          let all = read_to_end source runs.0 told e runs.1.0 runs.1.1.accepted.specification.short in
+          (all.0, (t.0, runs.1.1.tree, runs.1.1.expression, t.1.0, subst (λ s. IsAccepted s t.0 runs.1.1.tree runs.1.1.expression) all.1 runs.1.1.accepted));
+      finishes = λ text told tree expression p calm e h.
+          elim (run_meant source text told journal tree expression meant calm e h (means_run words source journal meant text p m)) [
             | inl f ↦ stands_for_finish end meant f stands
             | inr is ↦ stands_for_memory end (subst (StandsFor end) is stands)
           ];
     }
 
--- a journal of what is meant: none, or a run of the two texts that were read
-journal_of : (source : Outside) (text : List ℕ) (journal : List Entry) (meant : End) → MeansRun source text journal meant → (journal ≡ []) ⊎ ((spec : List ℕ) × (WasRead source spec × Runs spec text journal))
-journal_of source text journal (Ended slot) m = inr (m.1.0, (m.1.1, m.1.2.0))
-journal_of source text journal (Failed fault exit thread place) m = inr (m.1.0, (m.1.1, m.1.2.0))
-journal_of source text journal (Refused fault) m = inl m.1.2.1
-journal_of source text journal OutOfMemory m = elim m.1 [ inl none ↦ inl none | inr r ↦ inr (r.0, (r.1, r.2)) ]
-journal_of source text journal ReadFault m = inl m.1
-journal_of source text journal WriteFault m = absurd m.1.2
-journal_of source text journal Usage m = absurd m.1.2
-
 -- the empty journal is a run of anything
-none_is_run : (journal : List Entry) (tree : ExprTree) → journal ≡ [] → IsRun tree step_limit journal
-none_is_run journal tree e = subst (IsRun tree step_limit) (sym e) tt
+none_is_run : (journal : List Entry) (tree : SpecTree) (expression : ExprTree) → journal ≡ [] → IsRun tree expression step_limit journal
+none_is_run journal tree expression e = subst (IsRun tree expression step_limit) (sym e) tt
 
--- each end that means no run has an empty journal
-no_entries : (words : List (List ℕ)) (source : Outside) (journal : List Entry) (meant : End) → Means words source journal meant → (journal ≡ []) ⊎ ((text : List ℕ) × (IsRunCommand words text × ((spec : List ℕ) × (WasRead source spec × Runs spec text journal))))
+-- a journal of what is meant: none, or a run of the texts that were read
+no_entries : (words : List (List ℕ)) (source : Outside) (journal : List Entry) (meant : End) → Means words source journal meant → (journal ≡ []) ⊎ RunsOfRead words source journal
 no_entries words source journal Usage m = inl m.empty
 no_entries words source journal WriteFault m = absurd m.2.1.2
-no_entries words source journal OutOfMemory m = elim (journal_of source m.0 journal OutOfMemory m.2) [ inl none ↦ inl none | inr r ↦ inr (m.0, (m.1, r)) ]
-no_entries words source journal (Ended slot) m = elim (journal_of source m.0 journal (Ended slot) m.2) [ inl none ↦ inl none | inr r ↦ inr (m.0, (m.1, r)) ]
+no_entries words source journal OutOfMemory m = elim m.2.1 [ inl none ↦ inl none | inr r ↦ inr (record { text = m.0; spec = r.0; command = m.1; read = r.1; runs = r.2 }) ]
+no_entries words source journal (Ended slot) m = inr (record { text = m.0; spec = m.2.1.0; command = m.1; read = m.2.1.1; runs = m.2.1.2.0 })
 no_entries words source journal (Refused fault) m = inl m.2.1.2.1
-no_entries words source journal (Failed fault exit thread place) m = elim (journal_of source m.0 journal (Failed fault exit thread place) m.2) [ inl none ↦ inl none | inr r ↦ inr (m.0, (m.1, r)) ]
+no_entries words source journal (Failed fault exit thread place) m = inr (record { text = m.0; spec = m.2.1.0; command = m.1; read = m.2.1.1; runs = m.2.1.2.0 })
 no_entries words source journal ReadFault m = inl m.2.1
+
+-- the texts that were read are those of the words and of the bytes that were told
+accepted_told : (words : List (List ℕ)) (source : Outside) (journal : List Entry) (text told : List ℕ) (r : RunsOfRead words source journal) → IsRunCommand words text → source.before ≡ Some told → IsAccepted told text r.runs.tree r.runs.expression
+accepted_told words source journal text told r p e =
+    subst (λ t. IsAccepted told t r.runs.tree r.runs.expression) (same_text words r.text text r.command p)
+    (subst (λ s. IsAccepted s r.text r.runs.tree r.runs.expression) (read_to_end source r.spec told e r.read r.runs.accepted.specification.short).1 r.runs.accepted)
+
+-- so the run is one of their trees
+run_told : (words : List (List ℕ)) (source : Outside) (journal : List Entry) (text told : List ℕ) (tree : SpecTree) (expression : ExprTree) (r : RunsOfRead words source journal) → IsRunCommand words text → source.before ≡ Some told → IsAccepted told text tree expression → IsRun tree expression step_limit journal
+run_told words source journal text told tree expression r p e h =
+    let same = one_accepted told text r.runs.tree tree r.runs.expression expression (accepted_told words source journal text told r p e) h in
+    subst (λ x. IsRun tree x step_limit journal) same.1 (subst (λ t. IsRun t r.runs.expression step_limit journal) same.0 r.runs.run)
 
 journal_is_kept : (words : List (List ℕ)) (source : Outside) (journal : List Entry) (sink : Outside) (meant end : End) → Means words source journal meant → Wrote journal meant sink end → KeepsJournal words source journal end
 journal_is_kept words source journal sink meant end m w =
     let stands = wrote_stands journal meant sink end w in
     let entries = no_entries words source journal meant m in
     record {
-      run = λ text tree p h.
+      some_run = entries;
+      run = λ text told tree expression p e h.
           elim entries [
-            | inl none ↦ none_is_run journal tree none
-            | inr r ↦ subst (λ t. IsRun t step_limit journal) (same_tree text r.1.1.1.1.tree tree (subst (λ t. HasTree t r.1.1.1.1.tree) (same_text words r.0 text r.1.0 p) r.1.1.1.1.expression) h) r.1.1.1.1.run
+            | inl none ↦ none_is_run journal tree expression none
+            | inr r ↦ run_told words source journal text told tree expression r p e h
           ];
       no_command = λ none. (means_usage words source journal meant none m).1.empty;
-      no_tree = λ text p none.
+      no_trees = λ text told fault p e f.
           elim entries [
             | inl empty ↦ empty
-            | inr r ↦ absurd (none r.1.1.1.1.tree (subst (λ t. HasTree t r.1.1.1.1.tree) (same_text words r.0 text r.1.0 p) r.1.1.1.1.expression))
+            | inr r ↦ absurd (not_both told text fault r.runs.tree r.runs.expression f (accepted_told words source journal text told r p e))
           ];
       unread = λ told e more.
           elim entries [
             | inl empty ↦ empty
-            | inr r ↦ absurd (more (read_to_end source r.1.1.0 told e r.1.1.1.0 r.1.1.1.1.specification).0)
+            | inr r ↦ absurd (more (read_to_end source r.spec told e r.read r.runs.accepted.specification.short).0)
           ];
       usage = λ e.
           let r : Usage ≡ meant = subst (λ x. StandsFor x meant) e stands in

@@ -1,2 +1,2 @@
-pub mod SumRuns
 pub mod Keeping
+pub mod RunEntries

@@ -1,9 +1,10 @@
 -- What a whole call of the program keeps, clause by clause.
 use Rattle.std.specs.Prelude.{◌≡◌, ◌≢◌, ℕ, ◌+◌, ◌≤◌, ◌⊎◌, Bool, false, List, [], Option, Some, IsSome}
+use Rattle.abstract_syntax.specs.Classes.{SpecTree}
 use Rattle.abstract_syntax.specs.Expressions.{ExprTree}
 use Rattle.run_journal.specs.declared.entry.Entry.{Entry}
 use Rattle.vdm_kinds.specs.declared.spec_fault.SpecFault.{SpecFault}
-use Rattle.vdm_grammar.specs.Texts.{HasTree, HasNoTree, IsFirstRefusal, IsSpecification, spec_limit}
+use Rattle.vdm_grammar.specs.Texts.{IsAccepted, IsFirstRefusal, spec_limit}
 use Rattle.vdm_meaning.specs.Main.{step_limit}
 use Rattle.vdm_meaning.specs.Runs.{IsRun}
 use Rattle.vdm_outside.specs.Reading.{ConsumesAtMost}
@@ -11,7 +12,7 @@ use Rattle.report_texts.specs.Words.{IsRunCommand, IsNoCommand}
 use Rattle.vdm_cli.specs.declared.end.End.{End}
 use Rattle.vdm_cli.specs.declared.end.End.TheVariants.{Refused, Usage, ReadFault, WriteFault, OutOfMemory}
 use Rattle.vdm_cli.specs.Ends.{finish_in}
-use Rattle.vdm_cli.specs.Meant.{Outside, IsCalm, IsFaulty, IsUntouched, WasRead, Means}
+use Rattle.vdm_cli.specs.Meant.{Outside, IsCalm, IsFaulty, IsUntouched, WasRead, Runs, Means}
 use Rattle.vdm_cli.specs.Written.{Wrote}
 
 -- a write fault and want of memory may stand in place of the end that is meant
@@ -36,15 +37,25 @@ pub record KeepsReading {S : Type 0} (left : S → Option (List ℕ)) (reads : S
 pub record KeepsTexts (words : List (List ℕ)) (source : Outside) (end : End) : Type 0 where
   pub refused : (fault : SpecFault) → end ≡ Refused fault → (text spec : List ℕ) × IsRunCommand words text × WasRead source spec × IsFirstRefusal spec text fault
   pub refuses : (text spec told : List ℕ) (fault : SpecFault) → IsRunCommand words text → (IsFaulty source → ⊥) → source.before ≡ Some told → WasRead source spec → IsFirstRefusal spec text fault → StandsFor end (Refused fault)
-  pub finished : IsSome (finish_in end) → (told : List ℕ) → source.before ≡ Some told → (source.after ≡ Some []) × IsSpecification told × ((text : List ℕ) × (tree : ExprTree) × IsRunCommand words text × HasTree text tree)
-  pub finishes : (text told : List ℕ) (tree : ExprTree) → IsRunCommand words text → (IsFaulty source → ⊥) → source.before ≡ Some told → IsSpecification told → HasTree text tree → IsSome (finish_in end) ⊎ ((end ≡ WriteFault) ⊎ (end ≡ OutOfMemory))
+  pub finished : IsSome (finish_in end) → (told : List ℕ) → source.before ≡ Some told → (source.after ≡ Some []) × ((text : List ℕ) × (tree : SpecTree) × (expression : ExprTree) × IsRunCommand words text × IsAccepted told text tree expression)
+  pub finishes : (text told : List ℕ) (tree : SpecTree) (expression : ExprTree) → IsRunCommand words text → (IsFaulty source → ⊥) → source.before ≡ Some told → IsAccepted told text tree expression → IsSome (finish_in end) ⊎ ((end ≡ WriteFault) ⊎ (end ≡ OutOfMemory))
 
--- Journal: whatever the end is, a run of the expression's tree; empty under usage, a refusal and a read fault, where the
--- words or the text are none, and wherever the source was not read to its end.
+-- The journal is a run of the trees of texts that the words and the source gave.
+pub record RunsOfRead (words : List (List ℕ)) (source : Outside) (journal : List Entry) : Type 0 where
+  pub text : List ℕ
+  pub spec : List ℕ
+  pub command : IsRunCommand words text
+  pub read : WasRead source spec
+  pub runs : Runs spec text journal
+
+-- Journal: whatever the end is, it is empty, or a run of the trees of the texts that were read, and where the source told
+-- them, of theirs; empty under usage, a refusal and a read fault, where the words are no command or the texts have a
+-- refusal, and wherever the source was not read to its end.
 pub record KeepsJournal (words : List (List ℕ)) (source : Outside) (journal : List Entry) (end : End) : Type 0 where
-  pub run : (text : List ℕ) (tree : ExprTree) → IsRunCommand words text → HasTree text tree → IsRun tree step_limit journal
+  pub some_run : (journal ≡ []) ⊎ RunsOfRead words source journal
+  pub run : (text told : List ℕ) (tree : SpecTree) (expression : ExprTree) → IsRunCommand words text → source.before ≡ Some told → IsAccepted told text tree expression → IsRun tree expression step_limit journal
   pub no_command : IsNoCommand words → journal ≡ []
-  pub no_tree : (text : List ℕ) → IsRunCommand words text → HasNoTree text → journal ≡ []
+  pub no_trees : (text told : List ℕ) (fault : SpecFault) → IsRunCommand words text → source.before ≡ Some told → IsFirstRefusal told text fault → journal ≡ []
   pub unread : (told : List ℕ) → source.before ≡ Some told → source.after ≢ Some [] → journal ≡ []
   pub usage : end ≡ Usage → journal ≡ []
   pub refused : (fault : SpecFault) → end ≡ Refused fault → journal ≡ []

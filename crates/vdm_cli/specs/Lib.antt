@@ -1,5 +1,5 @@
 pub mod Ends
 pub mod Headline
 pub mod Meant
-pub mod Sums
+pub mod RunEnds
 pub mod Written

@@ -1,8 +1,9 @@
 -- The end that a call means, where its report is left aside, each with its cause.
 use Rattle.std.specs.Prelude.{◌≡◌, ℕ, ◌+◌, ◌⊎◌, List, [], Option, Some}
+use Rattle.abstract_syntax.specs.Classes.{SpecTree}
 use Rattle.abstract_syntax.specs.Expressions.{ExprTree}
 use Rattle.run_journal.specs.declared.entry.Entry.{Entry}
-use Rattle.vdm_grammar.specs.Texts.{IsSpecification, HasTree, IsFirstRefusal, spec_limit}
+use Rattle.vdm_grammar.specs.Texts.{IsAccepted, IsFirstRefusal, spec_limit}
 use Rattle.vdm_meaning.specs.Main.{step_limit}
 use Rattle.vdm_meaning.specs.Runs.{Finish, ended, failed, IsRun, finish_of}
 use Rattle.vdm_outside.specs.Counts.{Rose}
@@ -40,12 +41,12 @@ IsUntouched o = o.after ≡ o.before
 abbrev pub WasRead : Outside → List ℕ → Type 0
 WasRead source bytes = AreFirst (spec_limit + 1) source.before source.after bytes
 
--- the journal is a run of the expression under an accepted specification
+-- both texts are accepted, and the journal is a run of their trees
 pub record Runs (spec text : List ℕ) (journal : List Entry) : Type 0 where
-  pub tree : ExprTree
-  pub specification : IsSpecification spec
-  pub expression : HasTree text tree
-  pub run : IsRun tree step_limit journal
+  pub tree : SpecTree
+  pub expression : ExprTree
+  pub accepted : IsAccepted spec text tree expression
+  pub run : IsRun tree expression step_limit journal
 
 -- a run that ends so
 abbrev pub Finishes : List ℕ → List ℕ → List Entry → Finish → Type 0

@@ -3,7 +3,8 @@
 ghost use Rattle.std.specs.Prelude.{◌≡◌, [], map, IfOk};
 ghost use Rattle.std.specs.String.{string_bytes};
 ghost use Rattle.vdm_kinds.specs.declared.spec_fault.SpecFault.{SpecFault};
-ghost use Rattle.vdm_grammar.specs.Texts.{IsSpecification, HasTree, IsFirstRefusal};
+ghost use Rattle.vdm_grammar.specs.Texts.{IsAccepted, IsFirstRefusal};
+ghost use Rattle.vdm_tree.specs.ClassView.{spec_view};
 ghost use Rattle.vdm_tree.specs.View.{view_of};
 ghost use Rattle.vdm_cli.specs.Ends.{HasReportLine};
 ghost use Rattle.vdm_cli.specs.Headline.{KeepsReading};
@@ -12,21 +13,25 @@ ghost use Rattle.vdm_cli.specs.Meant.{around, Means, MeansTexts};
 use crate::command::expression_of;
 use crate::end::End;
 use crate::run::run;
-use first_reader::{read_expression, read_specification};
+use first_reader::{SPEC_LIMIT, read_expression, read_specification};
 use run_journal::EntryList;
 use std::alloc::Global;
-use vdm_kinds::{Halt, SpecFault};
+use vdm_kinds::{Halt, Names, SpecFault};
 use vdm_outside::{Source, read_limited};
-use vdm_tree::Expr;
-
-/// The most bytes of a specification, 4 MiB.
-const SPEC_LIMIT: usize = 4_194_304;
+use vdm_tree::{Expr, Spec};
 
 /// The end that a call means, where its report is left aside, and the journal of its run.
 #[derive(Drop)]
 pub struct Meant {
     pub end: End,
     pub journal: EntryList,
+}
+
+/// The trees of the two texts.
+#[derive(Drop)]
+struct Trees {
+    spec: Spec,
+    expression: Expr,
 }
 
 /// What the words and the source mean. Faulty words read nothing.
@@ -51,21 +56,21 @@ fn meant_of_texts(alloc: Global, spec: &[u8], text: &[u8]) -> Meant
     ensures line { HasReportLine result.end }
 {
     match accepted(alloc, spec, text) {
-        Ok(tree) => run(alloc, &tree),
+        Ok(trees) => run(alloc, &trees.spec, &trees.expression),
         Err(Halt::Of(fault)) => without_run(alloc, End::Refused(fault)),
         Err(Halt::OutOfMemory) => without_run(alloc, End::OutOfMemory),
     }
 }
 
-/// The tree of the expression, where both texts are accepted.
-fn accepted(alloc: Global, spec: &[u8], text: &[u8]) -> Result<Expr, Halt<SpecFault>>
-    ensures tree { IfOk result (λ e. IsSpecification spec.now × HasTree text.now (view_of e)) }
+/// The trees of the two texts, where both are accepted.
+fn accepted(alloc: Global, spec: &[u8], text: &[u8]) -> Result<Trees, Halt<SpecFault>>
+    ensures trees { IfOk result (λ t. IsAccepted spec.now text.now (spec_view t.spec) (view_of t.expression)) }
     ensures refused { (fault : SpecFault) → result ≡ Err (Halt.Of fault) → IsFirstRefusal spec.now text.now fault }
 {
-    if let Err(fault) = read_specification(spec) {
-        return Err(Halt::Of(fault));
-    }
-    read_expression(alloc, text)
+    let mut names = Names::new(alloc)?;
+    let spec = read_specification(alloc, spec, &mut names)?;
+    let expression = read_expression(alloc, text, &mut names)?;
+    Ok(Trees { spec, expression })
 }
 
 fn without_run(alloc: Global, end: End) -> Meant

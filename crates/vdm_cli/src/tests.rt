@@ -1,21 +1,36 @@
 // Whole calls of the program over memory, which is ample, beside the plain program.
 
+ghost use Rattle.std.specs.Prelude.{◌^◌, ◌<◌, ◌+◌, length, IfOk};
+ghost use Rattle.vdm_tree.specs.ClassView.{spec_view};
+
 use crate::end::End;
 use crate::report::Report;
 use crate::vdm_main::vdm_main;
-use first_reader::read_expression;
+use first_reader::{read_expression, read_specification};
 use plain_meaning::{Finish, finish_of, is_run};
 use run_journal::{Deed, EntryList, Thread};
 use std::alloc::{AllocError, Global};
 use std::test::Fail;
-use vdm_kinds::{Name, Part, Place, RunFault, SpecKind};
+use vdm_kinds::{Halt, Name, Names, Part, Place, RunFault, SpecFault, SpecKind};
 use vdm_outside::{MemSink, MemSource, SureSink, SureSource};
+use vdm_tree::{Expr, Spec};
 use vdm_values::{Node, Slot, Value};
 
 const UNITS: u64 = 1_000_000;
 
 const USAGE: &str =
     "usage: vdm check | vdm run EXPR [--lanes N] [--slice N] [--ticks N] [--steps N] [--entries N] [--log] | vdm make N\n";
+
+const COUNTER: &[u8] = b"class Counter
+instance variables
+  n : nat := 0;
+operations
+  public inc : () ==> ()
+  inc() == n := n + 1;
+  public three : () ==> nat
+  three() == (inc(); inc(); inc(); return n);
+end Counter
+";
 
 const OVERFLOWING: &str = "170141183460469231731687303715884105727 + 1";
 
@@ -47,7 +62,7 @@ fn call(
 fn each_call_writes_its_last_line(rt: HostRuntime) -> Result<(), Fail> {
     let syntax_in_expr = "refused: 2 SyntaxFault at expr 1:1\n";
     let syntax_in_spec = "refused: 2 SyntaxFault at spec 1:1\n";
-    let rows: [(&[&str], &[u8], &str, u8); 18] = [
+    let rows: [(&[&str], &[u8], &str, u8); 23] = [
         (&["run", "1 + 1"], b"", "result: 2\n", 0),
         (&["run", "1 + 1"], b" \t\r\n", "result: 2\n", 0),
         (&["run", "0x10+010 +2"], b"", "result: 28\n", 0),
@@ -72,7 +87,17 @@ fn each_call_writes_its_last_line(rt: HostRuntime) -> Result<(), Fail> {
         (&["run", "1 +"], b"", syntax_in_expr, 1),
         (&["run", ""], b"", syntax_in_expr, 1),
         (&["run", "--log"], b"", syntax_in_expr, 1),
-        (&["run", "1"], b"class A end A", syntax_in_spec, 1),
+        (&["run", "1"], b"class A end A", "result: 1\n", 0),
+        (&["run", "1 + 1"], COUNTER, "result: 2\n", 0),
+        (
+            &["run", OVERFLOWING],
+            COUNTER,
+            "fault: 101 Overflow in main at expr 1:41\n",
+            3,
+        ),
+        (&["run", "1 +"], COUNTER, syntax_in_expr, 1),
+        (&["run", "n"], COUNTER, syntax_in_expr, 1),
+        (&["run", "1"], b"class A end B", syntax_in_spec, 1),
         (&["run", "x"], b"x", syntax_in_spec, 1),
         (&[], b"", USAGE, 2),
         (&["run"], b"", USAGE, 2),
@@ -161,6 +186,26 @@ fn the_journal_of_a_sum_has_two_entries(rt: HostRuntime) -> Result<(), Fail> {
 }
 
 #[test]
+fn the_journal_of_a_class_text_has_the_class(rt: HostRuntime) -> Result<(), Fail> {
+    let (report, _) = call(rt.alloc(), &["run", "1 + 1"], COUNTER, 4096)?;
+    let two = Slot::Held(Value::new(Node::Int(2)));
+    let [first, second, third] = report.journal.as_slice() else {
+        panic!(rt; "three entries are made");
+    };
+    assert_eq!(rt; (first.thread, first.object), (Thread::Main, 0));
+    assert!(rt;
+        matches!(&first.deed, Deed::Class { class: Name(0), values } if values.as_slice().is_empty())
+    );
+    assert_eq!(rt; (second.thread, second.object), (Thread::Main, 1));
+    assert!(rt;
+        matches!(&second.deed, Deed::Class { class: Name(3), values } if values.as_slice().is_empty())
+    );
+    assert_eq!(rt; (third.thread, third.object), (Thread::Main, 0));
+    assert!(rt; matches!(&third.deed, Deed::End { value } if *value == two));
+    Ok(())
+}
+
+#[test]
 fn a_refusal_and_a_failure_have_their_fields(rt: HostRuntime) -> Result<(), Fail> {
     let (refused, _) = call(rt.alloc(), &["run", "+"], b"", 4096)?;
     let start = Place {
@@ -184,22 +229,34 @@ fn a_refusal_and_a_failure_have_their_fields(rt: HostRuntime) -> Result<(), Fail
     Ok(())
 }
 
+/// The trees of two texts.
+fn trees(alloc: Global, spec: &[u8], text: &str) -> Result<(Spec, Expr), Halt<SpecFault>>
+    ensures { IfOk result (λ t. length (spec_view t.0).classes < 2 ^ 31) }
+{
+    let mut names = Names::new(alloc)?;
+    let spec = read_specification(alloc, spec, &mut names)?;
+    let expression = read_expression(alloc, text.as_bytes(), &mut names)?;
+    Ok((spec, expression))
+}
+
 #[test]
 fn the_plain_program_agrees(rt: HostRuntime) -> Result<(), Fail> {
     let alloc = rt.alloc();
-    for expression in ["7", "1 + 1", "1 + 2 + 0x3", OVERFLOWING] {
-        let (report, _) = call(alloc, &["run", expression], b"", 4096)?;
-        let Ok(tree) = read_expression(alloc, expression.as_bytes()) else {
-            panic!(rt; "a sum is read");
-        };
-        assert!(rt;
-            is_run(alloc, &tree, UNITS, &report.journal)?,
-            "at {expression}"
-        );
-        assert!(rt;
-            ends_as(&report.end, finish_of(&report.journal)),
-            "at {expression}"
-        );
+    for spec in [b"".as_slice(), b"class C end C", COUNTER] {
+        for expression in ["7", "1 + 1", "1 + 2 + 0x3", OVERFLOWING] {
+            let (report, _) = call(alloc, &["run", expression], spec, 4096)?;
+            let Ok((spec, tree)) = trees(alloc, spec, expression) else {
+                panic!(rt; "both texts are read");
+            };
+            assert!(rt;
+                is_run(alloc, &spec, &tree, UNITS, &report.journal)?,
+                "at {expression}"
+            );
+            assert!(rt;
+                ends_as(&report.end, finish_of(&report.journal)),
+                "at {expression}"
+            );
+        }
     }
     Ok(())
 }
