@@ -21,7 +21,7 @@ pub record ReadsLimited {S : Type 0} (left : S → Option (List ℕ)) (faults re
   pub most : IfOk result (λ v. vec_len v ≤ limit + 1)
   pub ended : IfOk result (λ v. vec_len v ≤ limit → IsAtEnd (left now))
   pub taken : ConsumesAtMost (limit + 1) (left before) (left now)
-  -- each turn but the last took a byte
+  -- at most one read more than bytes came
   pub turns : IfOk result (λ v. reads now ≤ reads before + vec_len v + 1)
   pub budget : reads now ≤ reads before + limit + 1
   pub cause : HaltHasCause (faults before) (faults now) result
