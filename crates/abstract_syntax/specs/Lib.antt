@@ -1,7 +1,13 @@
 pub mod Classes
 pub mod Expressions
+pub mod MapLaws
+pub mod Rising
+pub mod RisingLaws
 pub mod SameBy
 pub mod Statements
 pub mod Types
 pub mod ValueCode
+pub mod ValueOrder
+pub mod ValueOrderTotal
+pub mod ValueSets
 pub mod Values

@@ -1,5 +1,5 @@
 -- Values as pure trees: what a clause sees of a value, with no box and no vector in it.
-use Rattle.std.specs.Prelude.{◌≡◌, ℕ, ◌+◌, ℤ, Bool, List, [], ◌∷◌, refl}
+use Rattle.std.specs.Prelude.{◌≡◌, ℕ, ◌+◌, max, ℤ, Bool, List, [], ◌∷◌, refl}
 use Rattle.std.proofs.Common.{ap}
 use Rattle.vdm_kinds.specs.declared.name.Name.{Name}
 
@@ -88,3 +88,28 @@ abbrev mutual
   pub nodes_of_pairs : PairTrees → ℕ
   nodes_of_pairs no_pairs = 0
   nodes_of_pairs (one_pair k v ps) = nodes_of k + nodes_of v + nodes_of_pairs ps
+
+-- how deep a value is: 1 for a leaf, and for any other value 1 more than its deepest part, where there is one
+abbrev mutual
+  pub depth_of : ValueTree → ℕ
+  depth_of nil = 1
+  depth_of (boolean b) = 1
+  depth_of (number z) = 1
+  depth_of (character c) = 1
+  depth_of (quote q) = 1
+  depth_of (token v) = 1 + depth_of v
+  depth_of (tuple vs) = 1 + depth_of_values vs
+  depth_of (record_of class name vs) = 1 + depth_of_values vs
+  depth_of (sequence vs) = 1 + depth_of_values vs
+  depth_of (set_of vs) = 1 + depth_of_values vs
+  depth_of (map_of ps) = 1 + depth_of_pairs ps
+  depth_of (object n class) = 1
+
+  -- that of the deepest, or 0
+  pub depth_of_values : ValueTrees → ℕ
+  depth_of_values no_values = 0
+  depth_of_values (one_value v vs) = max (depth_of v) (depth_of_values vs)
+
+  pub depth_of_pairs : PairTrees → ℕ
+  depth_of_pairs no_pairs = 0
+  depth_of_pairs (one_pair k v ps) = max (max (depth_of k) (depth_of v)) (depth_of_pairs ps)

@@ -1,2 +1,5 @@
+pub mod Insertion
 pub mod Lists
-pub mod Nodes
+pub mod Neighbours
+pub mod Parts
+pub mod Sorted

@@ -1,7 +1,15 @@
 //! Values of the language, and lists of them.
 #![tactic(auto)]
 
+mod map;
+mod ordering;
 mod pair_list;
+#[cfg(test)]
+mod plain;
+mod set;
+#[cfg(test)]
+mod set_tests;
+mod size;
 mod slot;
 mod slot_list;
 #[cfg(test)]
@@ -9,7 +17,11 @@ mod tests;
 mod value;
 mod value_list;
 
+pub use map::map_from;
+pub use ordering::order;
 pub use pair_list::PairList;
+pub use set::set_from;
+pub use size::{depth, nodes};
 pub use slot::Slot;
 pub use slot_list::SlotList;
 pub use value::{Node, Value};

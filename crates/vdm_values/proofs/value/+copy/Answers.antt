@@ -1,5 +1,5 @@
 use Rattle.std.proofs.Common.{arith}
-use Rattle.vdm_values.proofs.Nodes.{nodes_of-item, nodes_of-pair}
+use Rattle.vdm_values.proofs.Parts.{nodes_of-item, nodes_of-pair}
 use Rattle.vdm_values.proofs.value.+copy.Goals as goal
 
 pub copy_pairs-copy-requires : goal.copy_pairs-copy-requires
