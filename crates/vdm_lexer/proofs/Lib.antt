@@ -1,0 +1,7 @@
+pub mod Lexing
+pub mod Longest
+pub mod Rising
+pub mod Scans
+pub mod Signs
+pub mod Unicode
+pub mod Values

@@ -1,0 +1,15 @@
+pub mod Spots
+pub mod Characters
+pub mod Pieces
+pub mod Words
+pub mod Signs
+pub mod Numerals
+pub mod Escapes
+pub mod Quoted
+pub mod Comments
+pub mod Fronts
+pub mod Lexemes
+pub mod Lexed
+pub mod Longest
+pub mod Rising
+pub mod WorkedTexts

@@ -1,0 +1,23 @@
+//! Cuts a text into its lexemes.
+#![tactic(auto)]
+
+mod character;
+mod comment;
+mod decoded;
+mod escape;
+mod front;
+mod laws;
+mod lexeme;
+mod lexer;
+mod numeral;
+mod piece;
+mod quoted;
+mod sign;
+mod spot;
+mod word;
+
+pub use laws::{
+    identifiers_are_of_unicode, longest_sign_is_taken, one_list, spans_rise, worked_lexemes,
+};
+pub use lexeme::{LexKind, Lexeme};
+pub use lexer::lex;
