@@ -323,11 +323,21 @@ fn places_count_characters(rt: HostRuntime) -> Result<(), Fail> {
     Ok(())
 }
 
-// Whether each word, alone, has what is wanted.
-fn are_all(alloc: Global, words: &str, want: char) -> Result<bool, AllocError> {
-    for word in words.split(' ') {
-        let shown = kinds(alloc, word.as_bytes())?;
-        if !shown.starts_with(want) {
+// Whether each text, alone, is one lexeme, of the kind with this letter.
+fn are_each(alloc: Global, texts: &str, kind: char) -> Result<bool, AllocError> {
+    for text in texts.split(' ') {
+        let want = format!(in alloc; "{kind}{}E0", text.len())?;
+        if kinds(alloc, text.as_bytes())?.as_bytes() != want.as_bytes() {
+            return Ok(false);
+        }
+    }
+    Ok(true)
+}
+
+// Whether each text, alone, is left out where it begins.
+fn are_left_out(alloc: Global, texts: &str) -> Result<bool, AllocError> {
+    for text in texts.split(' ') {
+        if kinds(alloc, text.as_bytes())?.as_bytes() != b"5 at 1:1".as_slice() {
             return Ok(false);
         }
     }
@@ -338,13 +348,13 @@ fn are_all(alloc: Global, words: &str, want: char) -> Result<bool, AllocError> {
 fn each_word_and_sign(rt: HostRuntime) -> Result<(), Fail> {
     let reserved =
         "abs all always and atomic be bool by card cases char class comp conc dcl def dinter div do dom dunion elems else elseif end error exists exists1 exit false for forall functions hd if in inds inmap instance int inter inv inverse iota is isofbaseclass isofclass len let map measure merge mod mu munion mutex nat nat1 new nil not of operations or others per periodic post power pre private protected psubset public rem responsibility return rng samebaseclass sameclass self seq seq1 set skip specified st start startlist static subclass subset sync then thread time tixe tl to token trap true types undefined union values variables while with yet RESULT";
-    assert!(rt; are_all(rt.alloc(), reserved, 'R')?);
+    assert!(rt; are_each(rt.alloc(), reserved, 'R')?);
     let left_out =
         "async compose cycles definitions dlmodule duration eq errs exports ext floor imports lambda module narrow_ ord pure rat real reverse set1 sporadic state stop stoplist system threadid traces uselib / @ ? :-";
-    assert!(rt; are_all(rt.alloc(), left_out, '5')?);
+    assert!(rt; are_left_out(rt.alloc(), left_out)?);
     let signs =
         "( ) [ ] { } , ; : :: := = == ==> => <=> -> +> <> < <= > >= <: <-: :> :-> + ++ - * ** \\ ^ & | || |-> . .# ... ~ ` #req #act #fin #active #waiting";
-    assert!(rt; are_all(rt.alloc(), signs, 'S')?);
+    assert!(rt; are_each(rt.alloc(), signs, 'S')?);
     Ok(())
 }
 
