@@ -1,5 +1,6 @@
 -- The pure trees of classes and of a whole specification.
-use Rattle.std.specs.Prelude.{List, Option, map}
+use Rattle.std.specs.Prelude.{Bool, nat_eq, List, [], Option, map, flat_map}
+use Rattle.std.specs.List.{find}
 use Rattle.vdm_kinds.specs.declared.access.Access.{Access}
 use Rattle.vdm_kinds.specs.declared.name.Name.{Name}
 use Rattle.vdm_kinds.specs.declared.place.Place.{Place}
@@ -44,3 +45,31 @@ pub record SpecTree : Type 0 where
 -- the names of the classes
 abbrev pub class_names : SpecTree → List Name
 class_names spec = map (λ (class : ClassTree). class.name) spec.classes
+
+abbrev pub is_same_name : Name → Name → Bool
+is_same_name a b = nat_eq a.0 b.0
+
+-- the definitions of a class, in text order
+abbrev pub variables_in : BlockTree → List VariableTree
+variables_in (variables definitions place) = definitions
+variables_in (operations definitions place) = []
+
+abbrev pub operations_in : BlockTree → List OperationTree
+operations_in (variables definitions place) = []
+operations_in (operations definitions place) = definitions
+
+abbrev pub class_variables : ClassTree → List VariableTree
+class_variables class = flat_map variables_in class.blocks
+
+abbrev pub class_operations : ClassTree → List OperationTree
+class_operations class = flat_map operations_in class.blocks
+
+-- what a name stands for, where it stands for anything
+abbrev pub variable_named : ClassTree → Name → Option VariableTree
+variable_named class name = find (λ (v : VariableTree). is_same_name name v.name) (class_variables class)
+
+abbrev pub operation_named : ClassTree → Name → Option OperationTree
+operation_named class name = find (λ (o : OperationTree). is_same_name name o.name) (class_operations class)
+
+abbrev pub class_named : SpecTree → Name → Option ClassTree
+class_named spec name = find (λ (class : ClassTree). is_same_name name class.name) spec.classes

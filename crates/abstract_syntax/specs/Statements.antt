@@ -31,3 +31,10 @@ mutual
   pub data StmtTrees : Type 0 where
     no_stmts : StmtTrees
     one_stmt : StmtTree → StmtTrees → StmtTrees
+
+-- the place of a node
+abbrev pub stmt_place : StmtTree → Place
+stmt_place (assign target value place) = place
+stmt_place (call application place) = place
+stmt_place (block locals statements place) = place
+stmt_place (returns value place) = place

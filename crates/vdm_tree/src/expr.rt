@@ -1,7 +1,7 @@
 // Expressions.
 
 ghost use Rattle.std.specs.Prelude.{◌≡◌, IfOk};
-ghost use Rattle.abstract_syntax.specs.Expressions.{whole, named, joined, apply};
+ghost use Rattle.abstract_syntax.specs.Expressions.{whole, named, joined, apply, create, select};
 ghost use Rattle.vdm_tree.specs.View.{view_of, expr_trees, views_of};
 
 use std::alloc::Global;
@@ -18,6 +18,10 @@ pub enum Expr {
     Infix(Box<Expr>, Operator, Box<Expr>, Place),
     /// An application of what stands first to the arguments; its place is that of its `(`.
     Apply(Box<Expr>, Vec<Expr>, Place),
+    /// A new object: the name of its class, where that stands, and the arguments; its place is that of `new`.
+    New(Name, Place, Vec<Expr>, Place),
+    /// A member of what stands first: its name, and where that stands; its place is that of its `.`.
+    Select(Box<Expr>, Name, Place, Place),
 }
 
 impl Expr {
@@ -61,6 +65,27 @@ impl Expr {
     {
         let head = Box::new(alloc, head)?;
         Ok(Expr::Apply(head, arguments, place))
+    }
+
+    /// A new object of the class whose name stands at `class_place`; `new` is at `place`.
+    pub fn create(class: Name, class_place: Place, arguments: Vec<Expr>, place: Place) -> Expr
+        ensures { view_of result ≡ create class class_place (expr_trees (views_of arguments.items)) place }
+    {
+        Expr::New(class, class_place, arguments, place)
+    }
+
+    /// The member of the target whose name stands at `name_place`, behind a `.` at `place`. Where memory is refused the
+    /// target is dropped.
+    pub fn select(
+        alloc: Global,
+        target: Expr,
+        name: Name,
+        name_place: Place,
+        place: Place,
+    ) -> Result<Expr, OutOfMemory>
+        ensures { IfOk result (λ e. view_of e ≡ select (view_of target) name name_place place) }
+    {
+        Ok(Expr::Select(Box::new(alloc, target)?, name, name_place, place))
     }
 }
 

@@ -43,3 +43,24 @@ fn a_name_is_applied(rt: HostRuntime) -> Result<(), Fail> {
     }
     Ok(())
 }
+
+// An object of class 4, whose name is at column 5, with one argument.
+fn is_new_object(e: &Expr) -> bool {
+    matches!(e, Expr::New(Name(4), class_place, arguments, place)
+        if *class_place == at(5) && *place == at(1)
+            && matches!(arguments.as_slice(), [only] if is_whole(only, 7, 7)))
+}
+
+#[test]
+fn a_member_of_a_new_object(rt: HostRuntime) -> Result<(), Fail> {
+    let arguments = vec![in rt.alloc(); Expr::whole(7, at(7))]?;
+    let object = Expr::create(Name(4), at(5), arguments, at(1));
+    match Expr::select(rt.alloc(), object, Name(6), at(10), at(9))? {
+        Expr::Select(target, name, name_place, place) => {
+            assert!(rt; is_new_object(&target));
+            assert_eq!(rt; (name, name_place, place), (Name(6), at(10), at(9)));
+        }
+        _ => panic!(rt; "a selection was made"),
+    }
+    Ok(())
+}
