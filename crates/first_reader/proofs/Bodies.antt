@@ -2,11 +2,11 @@
 use Rattle.std.proofs.Common.{◌≡◌, Bool, true, false, ◌&&◌, not, if◌then◌else◌, List, [], ◌∷◌, ◌++◌, Option, Some, None, refl, ap, sym, ◌∙◌}
 use Rattle.std.specs.List.{list_all}
 use Rattle.vdm_kinds.specs.declared.name.Name.{Name}
-use Rattle.abstract_syntax.specs.Expressions.{ExprTree, whole, named, joined, apply}
+use Rattle.abstract_syntax.specs.Expressions.{ExprTree, whole, named, joined, apply, create, select}
 use Rattle.abstract_syntax.specs.Statements.{TargetTree, variable, StmtTree, StmtTrees, assign, call, block, returns, no_stmts, one_stmt}
 use Rattle.vdm_kinds.specs.NameList.{io}
-use Rattle.abstract_syntax.specs.Classes.{OperationTree, ClassTree}
-use Rattle.vdm_grammar.specs.Binding.{Scope, is_among, is_over, is_target, is_called, is_value, is_plain, are_plain, end_in_return, is_return, is_returning, has_no_result, is_body, is_same_name, are_different, member_names, scope_of, class_operations, is_bound_class}
+use Rattle.abstract_syntax.specs.Classes.{OperationTree, ClassTree, is_same_name, class_operations}
+use Rattle.vdm_grammar.specs.Binding.{Scope, is_among, is_over, is_target, is_called, is_value, is_plain, are_plain, end_in_return, is_return, is_returning, has_no_result, is_body, are_different, member_names, scope_of, is_bound_class}
 use Rattle.vdm_tree.specs.declared.stmt.Stmt.{Stmt}
 use Rattle.vdm_tree.specs.StmtView.{stmt_trees, stmt_view, stmt_views}
 use Rattle.std.proofs.lemmas.List.{map-append}
@@ -37,6 +37,8 @@ module _ (a b : Scope) (variables : (name : Name) → is_among name a.variables 
   over-same (named name place) = variables name
   over-same (joined left operator right place) = λ i. over-same left i && over-same right i
   over-same (apply head arguments place) = refl
+  over-same (create class class_place arguments place) = refl
+  over-same (select target name name_place place) = refl
 
   target-same : (t : TargetTree) → is_target a t ≡ is_target b t
   target-same (variable name place) = variables name
@@ -46,9 +48,13 @@ module _ (a b : Scope) (variables : (name : Name) → is_among name a.variables 
   called-same (apply (whole n at) arguments place) = refl
   called-same (apply (joined l o r at) arguments place) = refl
   called-same (apply (apply head inner at) arguments place) = refl
+  called-same (apply (create class class_place inner at) arguments place) = refl
+  called-same (apply (select target name name_place at) arguments place) = refl
   called-same (whole n place) = refl
   called-same (named name place) = refl
   called-same (joined left operator right place) = refl
+  called-same (create class class_place arguments place) = refl
+  called-same (select target name name_place place) = refl
 
   value-same : (v : Option ExprTree) → is_value a v ≡ is_value b v
   value-same None = refl

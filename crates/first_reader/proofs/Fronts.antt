@@ -8,7 +8,7 @@ use Rattle.std.proofs.lemmas.List.Folds.{length-prefix_len}
 use Rattle.std.proofs.lemmas.List.Sums.{prefix_len-le-length, take_while-cons}
 use Rattle.std.proofs.lemmas.Str.Ascii.{IsAscii-nil, IsAscii-cons}
 use Rattle.vdm_grammar.specs.declared.mark.Mark.{Mark}
-use Rattle.vdm_grammar.specs.declared.mark.Mark.TheVariants.{Becomes, Close, Colon, Defined, Gives, Open, Plus, Semicolon}
+use Rattle.vdm_grammar.specs.declared.mark.Mark.TheVariants.{Becomes, Close, Colon, Defined, Dot, Gives, Open, Plus, Semicolon}
 use Rattle.vdm_grammar.specs.Marks.{Sign, sign, sign_at, begins}
 use Rattle.vdm_grammar.specs.Words.{is_word_character}
 use Rattle.vdm_grammar.specs.Lexemes.{LexemeKind, word_kind}
@@ -61,7 +61,8 @@ sign_at-piece text =
     (piece-one text (codes "(") Open _ (omega arith) (search rules)
     (piece-one text (codes ")") Close _ (omega arith) (search rules)
     (piece-one text (codes "+") Plus _ (omega arith) (search rules)
-    (piece-one text (codes ";") Semicolon None (omega arith) (search rules) tt)))))))
+    (piece-one text (codes ";") Semicolon _ (omega arith) (search rules)
+    (piece-one text (codes ".") Dot None (omega arith) (search rules) tt))))))))
 
 pub sign-piece : (text : List ℕ) (found : Sign) → Some found ≡ sign_at text → IsPiece text found.length
 sign-piece text found e = rw (sym e) at (sign_at-piece text)

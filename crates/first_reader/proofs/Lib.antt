@@ -1,5 +1,6 @@
 pub mod Bodies
 pub mod Differing
+pub mod Found
 pub mod Fronts
 pub mod Lexing
 pub mod Naming

@@ -1,5 +1,5 @@
 -- The trees of texts from what was read of their tokens.
-use Rattle.std.proofs.Common.{◌≡◌, ℕ, ◌≤◌, Bool, true, false, List, [], length, Some, None, Result, Err, refl, ap, sym, ◌∙◌}
+use Rattle.std.proofs.Common.{◌≡◌, ℕ, ◌≤◌, Bool, true, false, List, length, Some, None, Result, Err, refl, ap, sym, ◌∙◌}
 use Rattle.vdm_kinds.specs.declared.halt.Halt.{Halt}
 use Rattle.vdm_kinds.specs.declared.halt.Halt.TheVariants.{Of}
 use Rattle.vdm_kinds.specs.NameList.{built_in_names}
@@ -7,7 +7,7 @@ use Rattle.vdm_kinds.specs.declared.part.Part.TheVariants.{Spec, Expr}
 use Rattle.abstract_syntax.specs.Classes.{SpecTree}
 use Rattle.abstract_syntax.specs.Expressions.{ExprTree}
 use Rattle.vdm_grammar.specs.declared.token.Token.{Token}
-use Rattle.vdm_grammar.specs.Binding.{is_bound, is_over}
+use Rattle.vdm_grammar.specs.Binding.{is_bound, is_bound_in}
 use Rattle.vdm_grammar.specs.Reading.{spec_of, expr_of}
 use Rattle.vdm_grammar.specs.Texts.{spec_limit, expr_limit, IsSpecification, IsNoSpecification, HasTree, HasNoTree}
 use Rattle.vdm_grammar.specs.Tokens.{names_behind}
@@ -33,13 +33,13 @@ module _ (text : List ℕ) (old names : List (List ℕ)) (tokens seen : List Tok
   pub is_unbound : (tree : SpecTree) (bound : Bool) → spec_of seen ≡ Some tree → bound ≡ is_bound tree → bound ≡ false → IsNoSpecification text
   is_unbound tree bound read is unbound = IsNoSpecification-from_unbound text names lexed.lexemes tree lexed.read named (sym (ap spec_of (same ∙ lexed.tokens)) ∙ read) (sym is ∙ unbound)
 
--- an expression's tokens behind other names
-module _ (text : List ℕ) (old names : List (List ℕ)) (tokens seen : List Token) (lexed : IsLexed Expr text old names tokens) (same : seen ≡ tokens) where
-  pub has_tree : (tree : ExprTree) (literals : Bool) → length text ≤ expr_limit → expr_of seen ≡ Some tree → literals ≡ is_over [] tree → literals ≡ true → HasTree old text names tree
-  has_tree tree literals short read is yes_literals = HasTree-from_tree old text names lexed.lexemes tree short lexed.read lexed.names (sym (ap expr_of (same ∙ lexed.tokens)) ∙ read) (sym is ∙ yes_literals)
+-- an expression's tokens behind a specification
+module _ (spec : SpecTree) (text : List ℕ) (old names : List (List ℕ)) (tokens seen : List Token) (lexed : IsLexed Expr text old names tokens) (same : seen ≡ tokens) where
+  pub has_tree : (tree : ExprTree) (bound : Bool) → length text ≤ expr_limit → expr_of seen ≡ Some tree → bound ≡ is_bound_in spec tree → bound ≡ true → HasTree spec old text names tree
+  has_tree tree bound short read is yes_bound = HasTree-from_tree spec old text names lexed.lexemes tree short lexed.read lexed.names (sym (ap expr_of (same ∙ lexed.tokens)) ∙ read) (sym is ∙ yes_bound)
 
-  pub has_none : expr_of seen ≡ None → HasNoTree old text
-  has_none read = HasNoTree-from_tokens old text names lexed.lexemes lexed.read lexed.names (sym (ap expr_of (same ∙ lexed.tokens)) ∙ read)
+  pub has_none : expr_of seen ≡ None → HasNoTree spec old text
+  has_none read = HasNoTree-from_tokens spec old text names lexed.lexemes lexed.read lexed.names (sym (ap expr_of (same ∙ lexed.tokens)) ∙ read)
 
-  pub has_names : (tree : ExprTree) (literals : Bool) → expr_of seen ≡ Some tree → literals ≡ is_over [] tree → literals ≡ false → HasNoTree old text
-  has_names tree literals read is names_stand = HasNoTree-from_unbound old text names lexed.lexemes tree lexed.read lexed.names (sym (ap expr_of (same ∙ lexed.tokens)) ∙ read) (sym is ∙ names_stand)
+  pub has_unbound : (tree : ExprTree) (bound : Bool) → expr_of seen ≡ Some tree → bound ≡ is_bound_in spec tree → bound ≡ false → HasNoTree spec old text
+  has_unbound tree bound read is unbound = HasNoTree-from_unbound spec old text names lexed.lexemes tree lexed.read lexed.names (sym (ap expr_of (same ∙ lexed.tokens)) ∙ read) (sym is ∙ unbound)

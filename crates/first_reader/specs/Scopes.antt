@@ -2,7 +2,7 @@
 use Rattle.std.specs.Prelude.{◌≡◌, ℕ, Bool, true, ◌&&◌, not, nat_eq, List, [], ◌∷◌, map, filter}
 use Rattle.std.specs.List.{list_any}
 use Rattle.vdm_kinds.specs.declared.name.Name.{Name}
-use Rattle.abstract_syntax.specs.Classes.{VariableTree, OperationTree}
+use Rattle.abstract_syntax.specs.Classes.{VariableTree, OperationTree, is_same_name}
 use Rattle.vdm_grammar.specs.Binding.{Scope as Meant, is_among, has_no_result}
 use Rattle.first_reader.specs.declared.scope.Scope.{Scope}
 
@@ -31,6 +31,10 @@ scope_view scope = record { variables = map name_of scope.variables.keys; proced
 pub record IsScopeOf (scope : Scope) (meant : Meant) : Type 0 where
   pub variables : (name : Name) → is_among name (scope_view scope).variables ≡ is_among name meant.variables
   pub procedures : (name : Name) → is_among name (scope_view scope).procedures ≡ is_among name meant.procedures
+
+-- the operation of the name
+abbrev pub is_operation : Name → OperationTree → Bool
+is_operation name o = is_same_name name o.name
 
 -- no number stands twice
 abbrev pub differ : List ℕ → Bool

@@ -2,7 +2,8 @@
 
 ghost use Rattle.std.specs.Prelude.{◌≡◌, map, flat_map, IfOk};
 ghost use Rattle.std.specs.List.{list_all};
-ghost use Rattle.vdm_grammar.specs.Binding.{is_bound, is_bound_class, is_body, operations_in, is_returning, is_plain, are_plain, end_in_return, is_return, is_value, is_target, is_called, is_over};
+ghost use Rattle.vdm_grammar.specs.Binding.{is_bound, is_bound_class, is_body, is_returning, is_plain, are_plain, end_in_return, is_return, is_value, is_target, is_called, is_over};
+ghost use Rattle.abstract_syntax.specs.Classes.{operations_in};
 ghost use Rattle.vdm_tree.specs.View.{view_of};
 ghost use Rattle.vdm_tree.specs.StmtView.{stmt_view, stmt_views, stmt_trees, target_view};
 ghost use Rattle.vdm_tree.specs.ClassView.{spec_view, class_view, block_view, operation_view};
@@ -185,6 +186,6 @@ fn is_over(scope: &Scope, sum: &Expr) -> bool
         Expr::Whole(_, _) => true,
         Expr::Name(name, _) => scope.has_variable(*name),
         Expr::Infix(left, _, right, _) => is_over(scope, left) && is_over(scope, right),
-        Expr::Apply(_, _, _) => false,
+        Expr::Apply(_, _, _) | Expr::New(_, _, _, _) | Expr::Select(_, _, _, _) => false,
     }
 }

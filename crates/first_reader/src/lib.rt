@@ -1,11 +1,13 @@
-//! Reads the two texts: the class text of a specification, and a sum of literals.
+//! Reads the two texts: the class text of a specification, and a sum of literals or a call of a new object's operation.
 #![tactic(auto)]
 
 mod binding;
 mod blank;
+mod call;
 mod class;
 mod definition;
 mod expression;
+mod expression_binding;
 mod front;
 mod lexer;
 mod members;

@@ -1,7 +1,8 @@
 // The names of the members of a class.
 
 ghost use Rattle.std.specs.Prelude.{◌≡◌, ◌∷◌, ◌++◌, IfOk, OnOk};
-ghost use Rattle.vdm_grammar.specs.Binding.{scope_of, member_names, variables_in, operations_in};
+ghost use Rattle.vdm_grammar.specs.Binding.{scope_of, member_names};
+ghost use Rattle.abstract_syntax.specs.Classes.{variables_in, operations_in};
 ghost use Rattle.vdm_tree.specs.ClassView.{class_view, block_view};
 ghost use Rattle.first_reader.specs.Scopes.{numbers, variable_numbers, procedure_numbers, operation_numbers};
 

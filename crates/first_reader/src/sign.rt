@@ -34,6 +34,8 @@ pub fn sign_at(text: &[u8]) -> Option<Sign>
         (Mark::Plus, 1)
     } else if text.starts_with(b";") {
         (Mark::Semicolon, 1)
+    } else if text.starts_with(b".") {
+        (Mark::Dot, 1)
     } else {
         return None;
     };

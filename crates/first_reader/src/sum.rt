@@ -1,9 +1,8 @@
-// The sum that tokens are.
+// Sums.
 
-ghost use Rattle.std.specs.Prelude.{◌≡◌, Some, None, IfOk, Err};
-ghost use Rattle.vdm_grammar.specs.Reading.{term_in, sum_on, sum_in, expr_of};
+ghost use Rattle.vdm_grammar.specs.Reading.{term_in, sum_on, sum_in};
 ghost use Rattle.vdm_tree.specs.View.{view_of};
-ghost use Rattle.first_reader.specs.Views.{Finds, Reads, Refuses};
+ghost use Rattle.first_reader.specs.Views.{Finds, Reads};
 
 use crate::no_tree::{NO_TREE, NoTree};
 use crate::single::mark;
@@ -14,17 +13,6 @@ use vdm_tree::Expr;
 
 /// How many nodes may be nested.
 pub const DEPTH_LIMIT: u32 = 200;
-
-/// The sum that the tokens are, from the first to the last. Other tokens have no tree.
-pub fn sum_of(alloc: Global, tokens: &[Token]) -> Result<Expr, Halt<NoTree>>
-    ensures tree { IfOk result (λ e. expr_of tokens.now ≡ Some (view_of e)) }
-    ensures refused { Refuses result (expr_of tokens.now) }
-{
-    match sum(alloc, tokens, DEPTH_LIMIT)? {
-        (sum, []) => Ok(sum),
-        _ => Err(NO_TREE),
-    }
-}
 
 /// A sum of at most `room` terms, and the tokens behind it.
 pub fn sum<'t>(

@@ -86,6 +86,8 @@ fn word_mark(word: &[u8]) -> Option<Mark>
         Mark::Instance
     } else if is(b"nat") {
         Mark::Nat
+    } else if is(b"new") {
+        Mark::New
     } else if is(b"operations") {
         Mark::Operations
     } else if is(b"public") {

@@ -15,6 +15,7 @@ use Rattle.vdm_grammar.specs.Spelling.{Written, anywhere, sign, type_spelling, e
 use Rattle.vdm_grammar.specs.Reading.{mark_in, name_in, name_again, literal_of_kind, literal_in, stmt_in, type_in, variable_in, brackets_in, result_in, signature_in, definition_in, operation_in}
 use Rattle.vdm_grammar.proofs.Fronts.{Front, Parts, ◌⟫◌, Reads, reads, reads_nothing, reads-more, onto-reads, choice-reads}
 use Rattle.vdm_grammar.proofs.Marks.{mark_in-reads, anywhere-at}
+use Rattle.vdm_grammar.proofs.EmptyBrackets.{brackets_in-reads}
 use Rattle.vdm_grammar.proofs.Names.{name_in-reads, name_again-reads}
 use Rattle.vdm_grammar.proofs.StatementsRead.{stmt_in-reads}
 
@@ -66,11 +67,6 @@ variable_in-reads tokens =
     })))))))
 
 -- the parts of an operation that is read
-brackets_in-reads : (tokens : List Token) → Reads (brackets_in tokens) (λ (place : Place) (rest : List Token). Front tokens (sign mark.Open ∷ sign mark.Close ∷ []) rest)
-brackets_in-reads tokens =
-    onto-reads (mark_in mark.Open tokens) _ _ _ (mark_in-reads mark.Open tokens) (λ bracket a h1.
-    reads-more (mark_in mark.Close a) _ _ (mark_in-reads mark.Close a) (λ close rest h2. anywhere-at h1 ⟫ anywhere-at h2))
-
 result_in-reads : (tokens : List Token) → Reads (result_in tokens) (λ (result : Option TypeTree) (rest : List Token). Front tokens (result_spelling result) rest)
 result_in-reads tokens =
     choice-reads (type_in tokens) _ _ _ _ (type_in-reads tokens) (λ declared rest h. reads _ (Some declared) rest h)

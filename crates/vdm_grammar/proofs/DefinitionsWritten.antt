@@ -4,7 +4,7 @@ use Rattle.vdm_kinds.specs.declared.access.Access.{Access}
 use Rattle.vdm_kinds.specs.declared.place.Place.{Place}
 use Rattle.vdm_kinds.specs.declared.name.Name.{Name as NameNumber}
 use Rattle.abstract_syntax.specs.Types.{TypeTree, nat}
-use Rattle.abstract_syntax.specs.Expressions.{ExprTree, whole, named, joined, apply}
+use Rattle.abstract_syntax.specs.Expressions.{ExprTree, whole, named, joined, apply, create, select}
 use Rattle.abstract_syntax.specs.Statements.{StmtTree}
 use Rattle.abstract_syntax.specs.Classes.{VariableTree, OperationTree}
 use Rattle.vdm_grammar.specs.declared.mark.Mark.TheVariants as mark
@@ -12,9 +12,10 @@ use Rattle.vdm_grammar.specs.declared.token.Token.{Token}
 use Rattle.vdm_grammar.specs.declared.token.TokenKind.TheVariants.{Name, Whole}
 use Rattle.vdm_grammar.specs.Grammar.{IsStatement, stmt_depth, depth_limit, private_access, public_access, IsLiteral, IsVariable, IsOperation}
 use Rattle.vdm_grammar.specs.Spelling.{at, anywhere, sign, sign_at_place, type_spelling, stmt_spelling, result_spelling, variable_spelling, operation_spelling}
-use Rattle.vdm_grammar.specs.Reading.{Read, onto, mark_in, name_in, literal_in, stmt_in, type_in, variable_in, brackets_in, result_in, signature_in, definition_in, operation_in}
+use Rattle.vdm_grammar.specs.Reading.{mark_in, name_in, literal_in, stmt_in, type_in, variable_in, result_in, signature_in, definition_in, operation_in}
 use Rattle.vdm_grammar.proofs.Fronts.{Front, split, onto-is, choice-is, choice-other, onto-none}
-use Rattle.vdm_grammar.proofs.Marks.{mark_in-at, mark_in-sign, onto-sign}
+use Rattle.vdm_grammar.proofs.Marks.{mark_in-at, onto-sign}
+use Rattle.vdm_grammar.proofs.EmptyBrackets.{onto-brackets}
 use Rattle.vdm_grammar.proofs.Names.{name_in-at, onto-again, other_mark}
 use Rattle.vdm_grammar.proofs.StatementsWritten.{stmt_in-is}
 use Rattle.vdm_grammar.proofs.DefinitionsRead.{signature_words, definition_words}
@@ -38,6 +39,8 @@ literal_variable-is : (name : NameNumber) (place : Place) (declared : TypeTree) 
 literal_variable-is name place declared (named m p) tokens rest l h = absurd l
 literal_variable-is name place declared (joined left operator right p) tokens rest l h = absurd l
 literal_variable-is name place declared (apply head arguments p) tokens rest l h = absurd l
+literal_variable-is name place declared (create class class_place arguments p) tokens rest l h = absurd l
+literal_variable-is name place declared (select target member member_place p) tokens rest l h = absurd l
 literal_variable-is name place (nat type_place) (whole n p) tokens rest l h =
     let a = split (at (Name name) place ∷ []) (sign mark.Colon ∷ sign_at_place mark.Nat type_place ∷ sign mark.Becomes ∷ at (Whole n) p ∷ sign mark.Semicolon ∷ []) h in
     let b = split (sign mark.Colon ∷ []) (sign_at_place mark.Nat type_place ∷ sign mark.Becomes ∷ at (Whole n) p ∷ sign mark.Semicolon ∷ []) a.second in
@@ -71,14 +74,6 @@ variable_in-is v {tokens = tokens} {rest = rest} g h =
     literal_variable-is v.name v.name_place v.declared k.0 tokens rest k.1 front ∙ ap (λ (w : VariableTree). Some (w, rest)) (sym k.2)
 
 -- ---- operations
-
--- two brackets
-onto-brackets : {B : Type 0} (tokens : List Token) (next : Place → List Token → Read B) (y : Read B) {rest : List Token} → Front tokens (sign mark.Open ∷ sign mark.Close ∷ []) rest → ((place : Place) → next place rest ≡ y) → onto (brackets_in tokens) next ≡ y
-onto-brackets tokens next y {rest = rest} h k =
-    let a = split (sign mark.Open ∷ []) (sign mark.Close ∷ []) h in
-    let p = mark_in-sign mark.Open tokens a.first in
-    let q = mark_in-sign mark.Close a.middle a.second in
-    onto-is (brackets_in tokens) next y q.0 rest (onto-is (mark_in mark.Open tokens) _ _ p.0 a.middle p.1 q.1) (k q.0)
 
 result_in-is : (result : Option TypeTree) {tokens rest : List Token} → Front tokens (result_spelling result) rest → result_in tokens ≡ Some (result, rest)
 result_in-is (Some declared) {tokens = tokens} {rest = rest} h = choice-is (type_in tokens) _ _ _ declared rest (type_in-is declared h) refl

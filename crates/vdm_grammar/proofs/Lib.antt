@@ -1,6 +1,7 @@
 pub mod Fronts
 pub mod Marks
 pub mod Names
+pub mod EmptyBrackets
 pub mod SumsRead
 pub mod StatementsRead
 pub mod StatementsWritten
@@ -8,6 +9,7 @@ pub mod DefinitionsRead
 pub mod DefinitionsWritten
 pub mod ClassesRead
 pub mod ClassesWritten
+pub mod Calls
 pub mod Whole
 pub mod Texts
 pub mod Refusals

@@ -16,10 +16,11 @@ use Rattle.vdm_grammar.proofs.Fronts.{Front, Reads, reads, reads_nothing, onto-i
 abbrev numbered : ℕ → MarkKind
 numbered n =
     if nat_eq n 0 then mark.Class else if nat_eq n 1 then mark.End else if nat_eq n 2 then mark.Instance
-    else if nat_eq n 3 then mark.Nat else if nat_eq n 4 then mark.Operations else if nat_eq n 5 then mark.Public
-    else if nat_eq n 6 then mark.Return else if nat_eq n 7 then mark.Variables else if nat_eq n 8 then mark.Becomes
-    else if nat_eq n 9 then mark.Close else if nat_eq n 10 then mark.Colon else if nat_eq n 11 then mark.Defined
-    else if nat_eq n 12 then mark.Gives else if nat_eq n 13 then mark.Open else if nat_eq n 14 then mark.Plus
+    else if nat_eq n 3 then mark.Nat else if nat_eq n 4 then mark.New else if nat_eq n 5 then mark.Operations
+    else if nat_eq n 6 then mark.Public else if nat_eq n 7 then mark.Return else if nat_eq n 8 then mark.Variables
+    else if nat_eq n 9 then mark.Becomes else if nat_eq n 10 then mark.Close else if nat_eq n 11 then mark.Colon
+    else if nat_eq n 12 then mark.Defined else if nat_eq n 13 then mark.Dot else if nat_eq n 14 then mark.Gives
+    else if nat_eq n 15 then mark.Open else if nat_eq n 16 then mark.Plus
     else mark.Semicolon
 
 numbered-mark_number : (m : MarkKind) → numbered (mark_number m) ≡ m
@@ -27,6 +28,7 @@ numbered-mark_number mark.Class = refl
 numbered-mark_number mark.End = refl
 numbered-mark_number mark.Instance = refl
 numbered-mark_number mark.Nat = refl
+numbered-mark_number mark.New = refl
 numbered-mark_number mark.Operations = refl
 numbered-mark_number mark.Public = refl
 numbered-mark_number mark.Return = refl
@@ -35,6 +37,7 @@ numbered-mark_number mark.Becomes = refl
 numbered-mark_number mark.Close = refl
 numbered-mark_number mark.Colon = refl
 numbered-mark_number mark.Defined = refl
+numbered-mark_number mark.Dot = refl
 numbered-mark_number mark.Gives = refl
 numbered-mark_number mark.Open = refl
 numbered-mark_number mark.Plus = refl

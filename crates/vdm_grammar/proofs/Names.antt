@@ -7,7 +7,7 @@ use Rattle.vdm_grammar.specs.declared.mark.Mark.{Mark as MarkKind}
 use Rattle.vdm_grammar.specs.declared.token.Token.{Token}
 use Rattle.vdm_grammar.specs.declared.token.TokenKind.{TokenKind}
 use Rattle.vdm_grammar.specs.declared.token.TokenKind.TheVariants.{Name, Whole, Mark}
-use Rattle.vdm_grammar.specs.Binding.{is_same_name}
+use Rattle.abstract_syntax.specs.Classes.{is_same_name}
 use Rattle.vdm_grammar.specs.Marks.{is_mark}
 use Rattle.vdm_grammar.specs.Spelling.{Written, at, anywhere}
 use Rattle.vdm_grammar.specs.Reading.{Read, onto, mark_in, NameAt, name_of_kind, name_in, name_again}

@@ -2,7 +2,7 @@
 use Rattle.std.proofs.Common.{◌≡◌, ◌≤◌, ◌<◌, ℕ, zero, suc, List, [], ◌∷◌, ◌++◌, length, length-append, Some, None, refl, ap, sym, ◌∙◌, subst, arith, append_assoc}
 use Rattle.vdm_kinds.specs.declared.place.Place.{Place}
 use Rattle.vdm_kinds.specs.declared.name.Name.{Name as NameNumber}
-use Rattle.abstract_syntax.specs.Expressions.{ExprTree, whole, named, joined, apply, no_exprs, one_expr}
+use Rattle.abstract_syntax.specs.Expressions.{ExprTree, whole, named, joined, apply, create, select, no_exprs, one_expr}
 use Rattle.abstract_syntax.specs.Statements.{variable, DclTree, StmtTree, StmtTrees, assign, call, block, returns, no_stmts, one_stmt}
 use Rattle.vdm_grammar.specs.declared.mark.Mark.TheVariants as mark
 use Rattle.vdm_grammar.specs.declared.token.Token.{Token}
@@ -117,9 +117,13 @@ stmt_in-is (suc room) (call (apply (named name at_name) (one_expr e es) bracket)
 stmt_in-is (suc room) (call (apply (whole n p) arguments bracket) place) tokens rest g h d e = absurd g
 stmt_in-is (suc room) (call (apply (joined l o r p) arguments bracket) place) tokens rest g h d e = absurd g
 stmt_in-is (suc room) (call (apply (apply f es p) arguments bracket) place) tokens rest g h d e = absurd g
+stmt_in-is (suc room) (call (apply (create c q es p) arguments bracket) place) tokens rest g h d e = absurd g
+stmt_in-is (suc room) (call (apply (select t n q p) arguments bracket) place) tokens rest g h d e = absurd g
 stmt_in-is (suc room) (call (whole n p) place) tokens rest g h d e = absurd g
 stmt_in-is (suc room) (call (named n p) place) tokens rest g h d e = absurd g
 stmt_in-is (suc room) (call (joined l o r p) place) tokens rest g h d e = absurd g
+stmt_in-is (suc room) (call (create c q es p) place) tokens rest g h d e = absurd g
+stmt_in-is (suc room) (call (select t n q p) place) tokens rest g h d e = absurd g
 stmt_in-is (suc room) (block locals no_stmts place) tokens rest g h d e = absurd (g.1 refl)
 stmt_in-is (suc room) (block locals (one_stmt s others) place) tokens rest g h d e =
     let P : StmtTrees → Type 0 = λ ss. IsRead (stmt_in (suc room)) (suc room) (block [] (one_stmt s ss) place) in

@@ -2,7 +2,7 @@
 use Rattle.std.proofs.Common.{◌≡◌, ◌≤◌, ◌+◌, ◌-◌, ℕ, zero, suc, List, [], ◌∷◌, Some, None, refl, ap, ◌∙◌, arith}
 use Rattle.vdm_kinds.specs.declared.operator.Operator.TheVariants.{Plus as operator_plus}
 use Rattle.vdm_kinds.specs.declared.place.Place.{Place}
-use Rattle.abstract_syntax.specs.Expressions.{ExprTree, whole, named, joined, apply}
+use Rattle.abstract_syntax.specs.Expressions.{ExprTree, whole, named, joined, apply, create, select}
 use Rattle.vdm_grammar.specs.declared.mark.Mark.TheVariants as mark
 use Rattle.vdm_grammar.specs.declared.token.Token.{Token}
 use Rattle.vdm_grammar.specs.declared.token.TokenKind.{TokenKind}
@@ -19,12 +19,16 @@ IsSum-term (whole n place) h = (tt, refl)
 IsSum-term (named name place) h = (tt, refl)
 IsSum-term (joined left operator right place) h = absurd h
 IsSum-term (apply head arguments place) h = absurd h
+IsSum-term (create class class_place arguments place) h = absurd h
+IsSum-term (select target name name_place place) h = absurd h
 
 expr_depth-positive : (tree : ExprTree) → IsSum tree → 1 ≤ expr_depth tree
 expr_depth-positive (whole n place) h = omega arith
 expr_depth-positive (named name place) h = omega arith
 expr_depth-positive (joined left operator right place) h = omega arith
 expr_depth-positive (apply head arguments place) h = absurd h
+expr_depth-positive (create class class_place arguments place) h = absurd h
+expr_depth-positive (select target name name_place place) h = absurd h
 
 -- a term that is read
 pub record TermRead (start : List Token) (tree : ExprTree) (rest : List Token) : Type 0 where
@@ -80,6 +84,8 @@ term_in-is (named name place) {tokens = []} s h = absurd h.begins
 term_in-is (named name place) {tokens = token ∷ tokens} s h = rw (h.begins.0, h.begins.1) refl
 term_in-is (joined left operator right place) s h = absurd s
 term_in-is (apply head arguments place) s h = absurd s
+term_in-is (create class class_place arguments place) s h = absurd s
+term_in-is (select target name name_place place) s h = absurd s
 
 -- a term goes on with what there is room for
 sum_in-term : (tree : ExprTree) (extra room : ℕ) {tokens rest : List Token} → IsTerm tree → Front tokens (expr_spelling tree) rest → expr_depth tree + extra ≡ suc room → sum_in (suc room) tokens ≡ sum_on extra tree rest
@@ -100,6 +106,8 @@ sum_in-on (joined left operator_plus right place) extra room {rest = rest} s h d
     ∙ choice-is (mark_in mark.Plus a.middle) _ _ _ place b.middle (mark_in-at mark.Plus place b.first)
     (onto-is (term_in b.middle) _ _ right rest (term_in-is right s.1 b.second) refl)
 sum_in-on (apply head arguments place) extra room s h d = absurd s
+sum_in-on (create class class_place arguments place) extra room s h d = absurd s
+sum_in-on (select target name name_place place) extra room s h d = absurd s
 
 -- a sum ends where no `+` comes next
 sum_on-end : (extra : ℕ) (tree : ExprTree) (rest : List Token) → mark_in mark.Plus rest ≡ None → sum_on extra tree rest ≡ Some (tree, rest)

@@ -1,15 +1,15 @@
 -- Texts: which have a specification or a tree, which have none, and that they have at most one.
-use Rattle.std.proofs.Common.{◌≡◌, ℕ, ◌<◌, ◌≤◌, true, false, List, [], length, Some, None, ap, arith}
+use Rattle.std.proofs.Common.{◌≡◌, ℕ, ◌<◌, ◌≤◌, true, false, List, length, Some, None, ap, arith}
 use Rattle.vdm_kinds.specs.NameList.{built_in_names}
 use Rattle.vdm_kinds.specs.declared.part.Part.TheVariants.{Spec, Expr}
 use Rattle.abstract_syntax.specs.Expressions.{ExprTree}
 use Rattle.abstract_syntax.specs.Classes.{SpecTree}
-use Rattle.vdm_grammar.specs.Binding.{is_bound, is_over}
+use Rattle.vdm_grammar.specs.Binding.{is_bound, is_bound_in}
 use Rattle.vdm_grammar.specs.Lexemes.{Lexeme, lexemes_of}
 use Rattle.vdm_grammar.specs.Reading.{spec_of, expr_of}
 use Rattle.vdm_grammar.specs.Texts.{spec_limit, expr_limit, IsSpecification, HasTree, IsNoSpecification, HasNoTree}
 use Rattle.vdm_grammar.specs.Tokens.{names_behind, tokens_with}
-use Rattle.vdm_grammar.proofs.Whole.{IsSpecOf-read, spec_of-spec, IsSumOf-read, expr_of-sum}
+use Rattle.vdm_grammar.proofs.Whole.{IsSpecOf-read, spec_of-spec, IsExprOf-read, expr_of-expression}
 
 -- ---- specifications
 
@@ -62,44 +62,44 @@ one_specification text m n a b h k =
 -- ---- expressions
 
 -- the text of an expression
-pub HasTree-from_tree : (first : List (List ℕ)) (text : List ℕ) (names : List (List ℕ)) (lexemes : List Lexeme) (tree : ExprTree) → length text ≤ expr_limit → lexemes_of Expr text ≡ Some lexemes → names ≡ names_behind first lexemes → expr_of (tokens_with names lexemes) ≡ Some tree → is_over [] tree ≡ true → HasTree first text names tree
-HasTree-from_tree first text names lexemes tree short lexed named read bound =
-    record { short = short; lexemes = lexemes; lexed = lexed; named = named; read = IsSumOf-read (tokens_with names lexemes) tree read; bound = bound }
+pub HasTree-from_tree : (spec : SpecTree) (first : List (List ℕ)) (text : List ℕ) (names : List (List ℕ)) (lexemes : List Lexeme) (tree : ExprTree) → length text ≤ expr_limit → lexemes_of Expr text ≡ Some lexemes → names ≡ names_behind first lexemes → expr_of (tokens_with names lexemes) ≡ Some tree → is_bound_in spec tree ≡ true → HasTree spec first text names tree
+HasTree-from_tree spec first text names lexemes tree short lexed named read bound =
+    record { short = short; lexemes = lexemes; lexed = lexed; named = named; read = IsExprOf-read (tokens_with names lexemes) tree read; bound = bound }
 
 -- what is read off the lexemes of an expression
-expr_of-lexemes : (first : List (List ℕ)) (text : List ℕ) (names others : List (List ℕ)) (lexemes : List Lexeme) (tree : ExprTree) → lexemes_of Expr text ≡ Some lexemes → names ≡ names_behind first lexemes → HasTree first text others tree → expr_of (tokens_with names lexemes) ≡ Some tree
-expr_of-lexemes first text names others lexemes tree lexed named h =
+expr_of-lexemes : (spec : SpecTree) (first : List (List ℕ)) (text : List ℕ) (names others : List (List ℕ)) (lexemes : List Lexeme) (tree : ExprTree) → lexemes_of Expr text ≡ Some lexemes → names ≡ names_behind first lexemes → HasTree spec first text others tree → expr_of (tokens_with names lexemes) ≡ Some tree
+expr_of-lexemes spec first text names others lexemes tree lexed named h =
     let e = h.lexed in
     let n = h.named in
-    let r = expr_of-sum (tokens_with others h.lexemes) tree h.read in
+    let r = expr_of-expression (tokens_with others h.lexemes) tree h.read in
     let same : h.lexemes ≡ lexemes = cc in
     let same_names : names ≡ others = cc in
     rw (same_names, ← same) r
 
 -- why a text has no tree
-pub HasNoTree-from_long : (first : List (List ℕ)) (text : List ℕ) → expr_limit < length text → HasNoTree first text
-HasNoTree-from_long first text long names tree h = let short = h.short in omega arith
+pub HasNoTree-from_long : (spec : SpecTree) (first : List (List ℕ)) (text : List ℕ) → expr_limit < length text → HasNoTree spec first text
+HasNoTree-from_long spec first text long names tree h = let short = h.short in omega arith
 
-pub HasNoTree-from_lexemes : (first : List (List ℕ)) (text : List ℕ) → lexemes_of Expr text ≡ None → HasNoTree first text
-HasNoTree-from_lexemes first text none names tree h = let e = h.lexed in cc
+pub HasNoTree-from_lexemes : (spec : SpecTree) (first : List (List ℕ)) (text : List ℕ) → lexemes_of Expr text ≡ None → HasNoTree spec first text
+HasNoTree-from_lexemes spec first text none names tree h = let e = h.lexed in cc
 
-pub HasNoTree-from_tokens : (first : List (List ℕ)) (text : List ℕ) (names : List (List ℕ)) (lexemes : List Lexeme) → lexemes_of Expr text ≡ Some lexemes → names ≡ names_behind first lexemes → expr_of (tokens_with names lexemes) ≡ None → HasNoTree first text
-HasNoTree-from_tokens first text names lexemes lexed named none others tree h =
-    let e = expr_of-lexemes first text names others lexemes tree lexed named h in cc
+pub HasNoTree-from_tokens : (spec : SpecTree) (first : List (List ℕ)) (text : List ℕ) (names : List (List ℕ)) (lexemes : List Lexeme) → lexemes_of Expr text ≡ Some lexemes → names ≡ names_behind first lexemes → expr_of (tokens_with names lexemes) ≡ None → HasNoTree spec first text
+HasNoTree-from_tokens spec first text names lexemes lexed named none others tree h =
+    let e = expr_of-lexemes spec first text names others lexemes tree lexed named h in cc
 
-pub HasNoTree-from_unbound : (first : List (List ℕ)) (text : List ℕ) (names : List (List ℕ)) (lexemes : List Lexeme) (tree : ExprTree) → lexemes_of Expr text ≡ Some lexemes → names ≡ names_behind first lexemes → expr_of (tokens_with names lexemes) ≡ Some tree → is_over [] tree ≡ false → HasNoTree first text
-HasNoTree-from_unbound first text names lexemes tree lexed named read unbound others other h =
-    let e = expr_of-lexemes first text names others lexemes other lexed named h in
+pub HasNoTree-from_unbound : (spec : SpecTree) (first : List (List ℕ)) (text : List ℕ) (names : List (List ℕ)) (lexemes : List Lexeme) (tree : ExprTree) → lexemes_of Expr text ≡ Some lexemes → names ≡ names_behind first lexemes → expr_of (tokens_with names lexemes) ≡ Some tree → is_bound_in spec tree ≡ false → HasNoTree spec first text
+HasNoTree-from_unbound spec first text names lexemes tree lexed named read unbound others other h =
+    let e = expr_of-lexemes spec first text names others lexemes other lexed named h in
     let b = h.bound in
     let same : tree ≡ other = cc in
-    let t = ap (is_over []) same in
+    let t = ap (is_bound_in spec) same in
     cc
 
 -- one tree
-pub one_tree : (first : List (List ℕ)) (text : List ℕ) (m n : List (List ℕ)) (a b : ExprTree) → HasTree first text m a → HasTree first text n b → (m ≡ n) × (a ≡ b)
-one_tree first text m n a b h k =
-    let e = expr_of-lexemes first text m n h.lexemes b h.lexed h.named k in
-    let r = expr_of-sum (tokens_with m h.lexemes) a h.read in
+pub one_tree : (spec : SpecTree) (first : List (List ℕ)) (text : List ℕ) (m n : List (List ℕ)) (a b : ExprTree) → HasTree spec first text m a → HasTree spec first text n b → (m ≡ n) × (a ≡ b)
+one_tree spec first text m n a b h k =
+    let e = expr_of-lexemes spec first text m n h.lexemes b h.lexed h.named k in
+    let r = expr_of-expression (tokens_with m h.lexemes) a h.read in
     let e1 = h.lexed in
     let e2 = k.lexed in
     let same : h.lexemes ≡ k.lexemes = cc in

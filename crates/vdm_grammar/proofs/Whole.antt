@@ -5,12 +5,12 @@ use Rattle.std.specs.List.{AllByRecursion as Each}
 use Rattle.abstract_syntax.specs.Expressions.{ExprTree}
 use Rattle.abstract_syntax.specs.Classes.{ClassTree, SpecTree}
 use Rattle.vdm_grammar.specs.declared.token.Token.{Token}
-use Rattle.vdm_grammar.specs.Grammar.{depth_limit, AreClasses, IsShallowBlock}
+use Rattle.vdm_grammar.specs.Grammar.{AreClasses, IsShallowBlock}
 use Rattle.vdm_grammar.specs.Spelling.{AreTokens, expr_spelling, class_spelling}
-use Rattle.vdm_grammar.specs.Reading.{Read, whole_of, sum_in, expr_of, class_in, spec_of}
-use Rattle.vdm_grammar.specs.Texts.{IsSumOf, IsSpecOf}
+use Rattle.vdm_grammar.specs.Reading.{Read, whole_of, expr_in, expr_of, class_in, spec_of}
+use Rattle.vdm_grammar.specs.Texts.{IsExprOf, IsSpecOf}
 use Rattle.vdm_grammar.proofs.Fronts.{◌⟫◌, no_front, AreTokens-front, Front-tokens, Front-nil, read-is}
-use Rattle.vdm_grammar.proofs.SumsRead.{sum_in-reads, sum_in-is}
+use Rattle.vdm_grammar.proofs.Calls.{expr_in-reads, expr_in-is}
 use Rattle.vdm_grammar.proofs.ClassesRead.{class_in-reads}
 use Rattle.vdm_grammar.proofs.ClassesWritten.{class_in-is}
 
@@ -23,14 +23,14 @@ whole_of-some (Some (b, token ∷ tokens)) a e = absurd (cc)
 whole_of-all : {A : Type 0} (read : Read A) (a : A) → read ≡ Some (a, []) → whole_of read ≡ Some a
 whole_of-all read a e = rw e refl
 
--- sums
-pub IsSumOf-read : (tokens : List Token) (tree : ExprTree) → expr_of tokens ≡ Some tree → IsSumOf tokens tree
-IsSumOf-read tokens tree e =
-    let h = read-is (sum_in depth_limit tokens) _ tree [] (sum_in-reads depth_limit tokens) (whole_of-some _ tree e) in
-    record { written = AreTokens-front h.front; grouped = h.grouped; shallow = h.shallow }
+-- expressions
+pub IsExprOf-read : (tokens : List Token) (tree : ExprTree) → expr_of tokens ≡ Some tree → IsExprOf tokens tree
+IsExprOf-read tokens tree e =
+    let h = read-is (expr_in tokens) _ tree [] (expr_in-reads tokens) (whole_of-some _ tree e) in
+    record { written = AreTokens-front h.front; grammatical = h.grammatical; shallow = h.shallow }
 
-pub expr_of-sum : (tokens : List Token) (tree : ExprTree) → IsSumOf tokens tree → expr_of tokens ≡ Some tree
-expr_of-sum tokens tree h = whole_of-all (sum_in depth_limit tokens) tree (sum_in-is depth_limit tree h.grouped (Front-tokens tokens (expr_spelling tree) h.written) h.shallow refl)
+pub expr_of-expression : (tokens : List Token) (tree : ExprTree) → IsExprOf tokens tree → expr_of tokens ≡ Some tree
+expr_of-expression tokens tree h = whole_of-all (expr_in tokens) tree (expr_in-is tree h.grammatical (Front-tokens tokens (expr_spelling tree) h.written) h.shallow refl)
 
 -- a class that is read whole
 abbrev one_class : ClassTree → SpecTree

@@ -1,15 +1,12 @@
 -- What the names of a specification stand for: members that differ, variables in sums and before `:=`, and operations that are
 -- called; and where a value is returned.
-use Rattle.std.specs.Prelude.{Bool, true, false, ◌&&◌, not, nat_eq, if◌then◌else◌, List, [], ◌∷◌, ◌++◌, map, flat_map, filter, is_none, Option, Some, None}
+use Rattle.std.specs.Prelude.{Bool, true, false, ◌&&◌, not, if◌then◌else◌, List, [], ◌∷◌, ◌++◌, map, filter, is_none, is_some, Option, Some, None, option_and_then}
 use Rattle.std.specs.List.{list_any, list_all}
 use Rattle.vdm_kinds.specs.NameList.{io}
 use Rattle.vdm_kinds.specs.declared.name.Name.{Name}
-use Rattle.abstract_syntax.specs.Expressions.{ExprTree, whole, named, joined, apply}
+use Rattle.abstract_syntax.specs.Expressions.{ExprTree, whole, named, joined, apply, create, select}
 use Rattle.abstract_syntax.specs.Statements.{TargetTree, variable, StmtTree, StmtTrees, assign, call, block, returns, no_stmts, one_stmt}
-use Rattle.abstract_syntax.specs.Classes.{VariableTree, OperationTree, BlockTree, variables, operations, ClassTree, SpecTree}
-
-abbrev pub is_same_name : Name → Name → Bool
-is_same_name a b = nat_eq a.0 b.0
+use Rattle.abstract_syntax.specs.Classes.{VariableTree, OperationTree, ClassTree, SpecTree, is_same_name, class_variables, class_operations, operation_named, class_named}
 
 abbrev pub is_among : Name → List Name → Bool
 is_among name names = list_any (is_same_name name) names
@@ -18,21 +15,6 @@ is_among name names = list_any (is_same_name name) names
 abbrev pub are_different : List Name → Bool
 are_different [] = true
 are_different (name ∷ names) = not (is_among name names) && are_different names
-
--- the definitions of a class, in text order
-abbrev pub variables_in : BlockTree → List VariableTree
-variables_in (variables definitions place) = definitions
-variables_in (operations definitions place) = []
-
-abbrev pub operations_in : BlockTree → List OperationTree
-operations_in (variables definitions place) = []
-operations_in (operations definitions place) = definitions
-
-abbrev pub class_variables : ClassTree → List VariableTree
-class_variables class = flat_map variables_in class.blocks
-
-abbrev pub class_operations : ClassTree → List OperationTree
-class_operations class = flat_map operations_in class.blocks
 
 -- what names may stand for in a class: its variables, and its operations without a result
 pub record Scope : Type 0 where
@@ -58,6 +40,8 @@ is_over names (whole n place) = true
 is_over names (named name place) = is_among name names
 is_over names (joined left operator right place) = is_over names left && is_over names right
 is_over names (apply head arguments place) = false
+is_over names (create class class_place arguments place) = false
+is_over names (select target name name_place place) = false
 
 abbrev pub is_target : Scope → TargetTree → Bool
 is_target scope (variable name place) = is_among name scope.variables
@@ -110,3 +94,13 @@ is_bound_class class =
 
 abbrev pub is_bound : SpecTree → Bool
 is_bound spec = list_all is_bound_class spec.classes
+
+-- a class of the specification has an operation of the name
+abbrev pub has_operation : SpecTree → Name → Name → Bool
+has_operation spec class name = is_some (option_and_then (λ (c : ClassTree). operation_named c name) (class_named spec class))
+
+-- behind a specification an expression's names stand for what their places want: no name in a sum stands for anything, and
+-- what is called of a new object is one of the operations of its class
+abbrev pub is_bound_in : SpecTree → ExprTree → Bool
+is_bound_in spec (apply (select (create class class_place arguments new_place) name name_place dot) others place) = has_operation spec class name
+is_bound_in spec tree = is_over [] tree

@@ -1,10 +1,10 @@
 -- Which trees the grammar has so far, and how deep they are.
-use Rattle.std.specs.Prelude.{◌≡◌, ◌≢◌, ℕ, ◌+◌, ◌≤◌, max, false, List, [], ◌∷◌, Option, Some, None}
+use Rattle.std.specs.Prelude.{◌≡◌, ◌≢◌, ℕ, ◌+◌, ◌≤◌, ◌⊎◌, max, false, List, [], ◌∷◌, Option, Some, None}
 use Rattle.std.specs.List.{AllByRecursion as Each}
 use Rattle.vdm_kinds.specs.declared.access.Access.{Access}
 use Rattle.vdm_kinds.specs.declared.access.Level.TheVariants.{Private, Public}
 use Rattle.vdm_kinds.specs.declared.place.Place.{Place}
-use Rattle.abstract_syntax.specs.Expressions.{ExprTree, ExprTrees, whole, named, joined, apply, no_exprs, one_expr}
+use Rattle.abstract_syntax.specs.Expressions.{ExprTree, ExprTrees, whole, named, joined, apply, create, select, no_exprs, one_expr}
 use Rattle.abstract_syntax.specs.Statements.{TargetTree, variable, StmtTree, StmtTrees, assign, call, block, returns, no_stmts, one_stmt}
 use Rattle.abstract_syntax.specs.Classes.{VariableTree, OperationTree, BlockTree, variables, operations, ClassTree, SpecTree}
 
@@ -14,6 +14,8 @@ IsTerm (whole n place) = Unit {0}
 IsTerm (named name place) = Unit {0}
 IsTerm (joined left operator right place) = ⊥
 IsTerm (apply head arguments place) = ⊥
+IsTerm (create class class_place arguments place) = ⊥
+IsTerm (select target name name_place place) = ⊥
 
 -- a sum groups to the left: what stands right of a `+` is one term
 abbrev pub IsSum : ExprTree → Type 0
@@ -21,6 +23,17 @@ IsSum (whole n place) = Unit {0}
 IsSum (named name place) = Unit {0}
 IsSum (joined left operator right place) = IsSum left × IsTerm right
 IsSum (apply head arguments place) = ⊥
+IsSum (create class class_place arguments place) = ⊥
+IsSum (select target name name_place place) = ⊥
+
+-- a call of an operation of a new object, with no argument anywhere: `new Id().Id()`
+abbrev pub IsCallOfNew : ExprTree → Type 0
+IsCallOfNew (apply (select (create class class_place no_exprs new_place) name name_place dot) no_exprs place) = Unit {0}
+IsCallOfNew _ = ⊥
+
+-- what may be run: a sum, or a call of an operation of a new object
+abbrev pub IsExpression : ExprTree → Type 0
+IsExpression tree = IsSum tree ⊎ IsCallOfNew tree
 
 -- a call without arguments of what a name at the place stands for
 abbrev pub IsCallAt : Place → ExprTree → Type 0
@@ -100,6 +113,8 @@ abbrev mutual
   expr_depth (named name place) = 1
   expr_depth (joined left operator right place) = max (expr_depth left) (expr_depth right) + 1
   expr_depth (apply head arguments place) = max (expr_depth head) (exprs_depth arguments) + 1
+  expr_depth (create class class_place arguments place) = exprs_depth arguments + 1
+  expr_depth (select target name name_place place) = expr_depth target + 1
 
   pub exprs_depth : ExprTrees → ℕ
   exprs_depth no_exprs = 0

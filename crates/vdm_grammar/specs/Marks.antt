@@ -2,7 +2,7 @@
 use Rattle.std.specs.Prelude.{ℕ, Bool, false, nat_eq, bytes_eq, if◌then◌else◌, List, codes, Option, Some, None}
 use Rattle.std.specs.List.{starts_with}
 use Rattle.vdm_grammar.specs.declared.mark.Mark.{Mark}
-use Rattle.vdm_grammar.specs.declared.mark.Mark.TheVariants.{Class, End, Instance, Nat, Operations, Public, Return, Variables, Becomes, Close, Colon, Defined, Gives, Open, Plus, Semicolon}
+use Rattle.vdm_grammar.specs.declared.mark.Mark.TheVariants.{Class, End, Instance, Nat, New, Operations, Public, Return, Variables, Becomes, Close, Colon, Defined, Dot, Gives, Open, Plus, Semicolon}
 use Rattle.vdm_grammar.specs.declared.token.TokenKind.{TokenKind}
 use Rattle.vdm_grammar.specs.declared.token.TokenKind.TheVariants as kind
 
@@ -11,18 +11,20 @@ mark_number Class = 0
 mark_number End = 1
 mark_number Instance = 2
 mark_number Nat = 3
-mark_number Operations = 4
-mark_number Public = 5
-mark_number Return = 6
-mark_number Variables = 7
-mark_number Becomes = 8
-mark_number Close = 9
-mark_number Colon = 10
-mark_number Defined = 11
-mark_number Gives = 12
-mark_number Open = 13
-mark_number Plus = 14
-mark_number Semicolon = 15
+mark_number New = 4
+mark_number Operations = 5
+mark_number Public = 6
+mark_number Return = 7
+mark_number Variables = 8
+mark_number Becomes = 9
+mark_number Close = 10
+mark_number Colon = 11
+mark_number Defined = 12
+mark_number Dot = 13
+mark_number Gives = 14
+mark_number Open = 15
+mark_number Plus = 16
+mark_number Semicolon = 17
 
 -- whether a token is this mark
 abbrev pub is_mark : Mark → TokenKind → Bool
@@ -37,6 +39,7 @@ word_mark word =
     else if bytes_eq word (codes "end") then Some End
     else if bytes_eq word (codes "instance") then Some Instance
     else if bytes_eq word (codes "nat") then Some Nat
+    else if bytes_eq word (codes "new") then Some New
     else if bytes_eq word (codes "operations") then Some Operations
     else if bytes_eq word (codes "public") then Some Public
     else if bytes_eq word (codes "return") then Some Return
@@ -66,4 +69,5 @@ sign_at text =
     else if begins text (codes ")") then sign Close 1
     else if begins text (codes "+") then sign Plus 1
     else if begins text (codes ";") then sign Semicolon 1
+    else if begins text (codes ".") then sign Dot 1
     else None

@@ -4,15 +4,14 @@ use Rattle.vdm_kinds.specs.declared.name.Name.{Name as NameNumber}
 use Rattle.vdm_kinds.specs.declared.operator.Operator.TheVariants.{Plus as operator_plus}
 use Rattle.vdm_kinds.specs.declared.place.Place.{Place}
 use Rattle.abstract_syntax.specs.Types.{TypeTree, nat}
-use Rattle.abstract_syntax.specs.Expressions.{ExprTree, whole, named, joined, apply, no_exprs}
+use Rattle.abstract_syntax.specs.Expressions.{ExprTree, whole, named, joined, apply, create, select, no_exprs}
 use Rattle.abstract_syntax.specs.Statements.{variable, StmtTree, StmtTrees, assign, call, block, returns, no_stmts, one_stmt}
-use Rattle.abstract_syntax.specs.Classes.{VariableTree, OperationTree, BlockTree, variables, operations, ClassTree, SpecTree}
+use Rattle.abstract_syntax.specs.Classes.{VariableTree, OperationTree, BlockTree, variables, operations, ClassTree, SpecTree, is_same_name}
 use Rattle.vdm_grammar.specs.declared.mark.Mark.{Mark as MarkKind}
 use Rattle.vdm_grammar.specs.declared.mark.Mark.TheVariants as mark
 use Rattle.vdm_grammar.specs.declared.token.Token.{Token}
 use Rattle.vdm_grammar.specs.declared.token.TokenKind.{TokenKind}
 use Rattle.vdm_grammar.specs.declared.token.TokenKind.TheVariants.{Name, Whole, Mark}
-use Rattle.vdm_grammar.specs.Binding.{is_same_name}
 use Rattle.vdm_grammar.specs.Grammar.{private_access, public_access, depth_limit}
 use Rattle.vdm_grammar.specs.Marks.{is_mark}
 
@@ -91,6 +90,28 @@ abbrev pub sum_in : ℕ → List Token → Read ExprTree
 sum_in zero tokens = None
 sum_in (suc room) tokens = onto (term_in tokens) (sum_on room)
 
+-- ---- calls of new objects
+
+-- two brackets with nothing between
+abbrev pub brackets_in : List Token → Read Place
+brackets_in tokens = onto (mark_in mark.Open tokens) (λ (bracket : Place) (rest : List Token). mark_in mark.Close rest)
+
+-- a new object, behind `new` at the place: the name of its class, and no arguments
+abbrev pub new_in : Place → List Token → Read ExprTree
+new_in place tokens =
+    onto (name_in tokens) (λ (class : NameAt) (a : List Token).
+    onto (brackets_in a) (λ (close : Place) (b : List Token).
+    Some (create class.name class.place no_exprs place, b)))
+
+-- the call of an operation of what stands before the `.`
+abbrev pub call_on : ExprTree → List Token → Read ExprTree
+call_on target tokens =
+    onto (mark_in mark.Dot tokens) (λ (dot : Place) (a : List Token).
+    onto (name_in a) (λ (name : NameAt) (b : List Token).
+    onto (mark_in mark.Open b) (λ (bracket : Place) (c : List Token).
+    onto (mark_in mark.Close c) (λ (close : Place) (d : List Token).
+    Some (apply (select target name.name name.place dot) no_exprs bracket, d)))))
+
 -- ---- statements
 
 -- the statement that a name begins: an assignment, or a call, which nests three nodes
@@ -158,10 +179,6 @@ variables_on zero read tokens = None
 variables_on (suc turns) read tokens =
     onto (variable_in tokens) (λ (variable : VariableTree) (rest : List Token).
     choice (name_in rest) (λ (name : NameAt) (behind : List Token). variables_on turns (read ++ variable ∷ []) rest) (Some (read ++ variable ∷ [], rest)))
-
--- two brackets with nothing between
-abbrev pub brackets_in : List Token → Read Place
-brackets_in tokens = onto (mark_in mark.Open tokens) (λ (bracket : Place) (rest : List Token). mark_in mark.Close rest)
 
 -- the type of a result, or brackets where there is no result
 abbrev pub result_in : List Token → Read (Option TypeTree)
@@ -251,6 +268,9 @@ abbrev pub spec_of : List Token → Option SpecTree
 spec_of [] = Some (record { classes = [] })
 spec_of (token ∷ tokens) = option_map (λ (class : ClassTree). record { classes = class ∷ [] }) (whole_of (class_in (token ∷ tokens)))
 
--- an expression: a sum
+-- an expression: a call of an operation of a new object where it begins with `new`, else a sum
+abbrev pub expr_in : List Token → Read ExprTree
+expr_in tokens = choice (mark_in mark.New tokens) (λ (place : Place) (rest : List Token). onto (new_in place rest) call_on) (sum_in depth_limit tokens)
+
 abbrev pub expr_of : List Token → Option ExprTree
-expr_of tokens = whole_of (sum_in depth_limit tokens)
+expr_of tokens = whole_of (expr_in tokens)

@@ -4,7 +4,7 @@ use Rattle.vdm_kinds.specs.declared.access.Level.{Level}
 use Rattle.vdm_kinds.specs.declared.access.Level.TheVariants.{Private, Protected, Public}
 use Rattle.vdm_kinds.specs.declared.place.Place.{Place}
 use Rattle.abstract_syntax.specs.Types.{TypeTree, nat}
-use Rattle.abstract_syntax.specs.Expressions.{ExprTree, whole, named, joined, apply}
+use Rattle.abstract_syntax.specs.Expressions.{ExprTree, whole, named, joined, apply, create, select}
 use Rattle.abstract_syntax.specs.Statements.{TargetTree, variable, StmtTree, StmtTrees, assign, call, block, returns, no_stmts, one_stmt}
 use Rattle.abstract_syntax.specs.Classes.{VariableTree, OperationTree, BlockTree, variables, operations, ClassTree, SpecTree}
 use Rattle.vdm_grammar.specs.declared.mark.Mark.{Mark as MarkKind}
@@ -39,12 +39,14 @@ sign m = anywhere (Mark m)
 abbrev pub type_spelling : TypeTree → List Written
 type_spelling (nat place) = sign_at_place mark.Nat place ∷ []
 
--- an application has no arguments so far
+-- an application and a new object have no arguments so far
 abbrev pub expr_spelling : ExprTree → List Written
 expr_spelling (whole n place) = at (Whole n) place ∷ []
 expr_spelling (named name place) = at (Name name) place ∷ []
 expr_spelling (joined left operator right place) = expr_spelling left ++ sign_at_place mark.Plus place ∷ expr_spelling right
 expr_spelling (apply head arguments place) = expr_spelling head ++ sign_at_place mark.Open place ∷ sign mark.Close ∷ []
+expr_spelling (create class class_place arguments place) = sign_at_place mark.New place ∷ at (Name class) class_place ∷ sign mark.Open ∷ sign mark.Close ∷ []
+expr_spelling (select target name name_place place) = expr_spelling target ++ sign_at_place mark.Dot place ∷ at (Name name) name_place ∷ []
 
 abbrev pub target_spelling : TargetTree → List Written
 target_spelling (variable name place) = at (Name name) place ∷ []

@@ -7,8 +7,8 @@ mod mark;
 mod token;
 
 pub use laws::{
-    one_pair_of_trees, one_refusal, one_specification, one_tree, specification_is_read,
-    sum_is_read, worked_texts,
+    expression_is_read, one_pair_of_trees, one_refusal, one_specification, one_tree,
+    specification_is_read, worked_expressions, worked_texts,
 };
 pub use mark::Mark;
 pub use token::{Token, TokenKind};

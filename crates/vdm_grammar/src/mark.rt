@@ -11,6 +11,8 @@ pub enum Mark {
     Instance,
     /// `nat`
     Nat,
+    /// `new`
+    New,
     /// `operations`
     Operations,
     /// `public`
@@ -27,6 +29,8 @@ pub enum Mark {
     Colon,
     /// `==`
     Defined,
+    /// `.`
+    Dot,
     /// `==>`
     Gives,
     /// `(`

@@ -1,5 +1,5 @@
+use crate::call::expression_of;
 use crate::class::specification_of;
-use crate::sum::sum_of;
 use std::alloc::{AllocError, Global};
 use std::test::Fail;
 use vdm_grammar::{Mark, Token, TokenKind};
@@ -247,8 +247,8 @@ fn two_hundred_nodes_deep(rt: HostRuntime) -> Result<(), Fail> {
 fn two_hundred_terms(rt: HostRuntime) -> Result<(), Fail> {
     let alloc = rt.alloc();
     let most = tokens(alloc, &sum_behind(alloc, &[], 200)?)?;
-    sum_of(alloc, &most)?;
+    expression_of(alloc, &most)?;
     let more = tokens(alloc, &sum_behind(alloc, &[], 201)?)?;
-    assert!(rt; matches!(sum_of(alloc, &more), Err(Halt::Of(_))));
+    assert!(rt; matches!(expression_of(alloc, &more), Err(Halt::Of(_))));
     Ok(())
 }

@@ -33,6 +33,17 @@ fn kinds(alloc: Global, tokens: &[Token]) -> Result<String, AllocError> {
     Ok(shown)
 }
 
+// Each of the texts has the tokens that stand beside it.
+fn have_kinds(rt: &impl Abort, alloc: Global, rows: &[(&str, &str)]) -> Result<(), Fail> {
+    for (text, want) in rows {
+        let mut names = Names::new(alloc)?;
+        let tokens = lexed(rt, alloc, Part::Spec, text.as_bytes(), &mut names)?;
+        let shown = kinds(alloc, &tokens)?;
+        assert_eq!(rt; shown.as_str(), *want, "at {text:?}");
+    }
+    Ok(())
+}
+
 #[test]
 fn signs_and_words(rt: HostRuntime) -> Result<(), Fail> {
     let rows = [
@@ -58,13 +69,19 @@ fn signs_and_words(rt: HostRuntime) -> Result<(), Fail> {
             " 170141183460469231731687303715884105727",
         ),
     ];
-    for (text, want) in rows {
-        let mut names = Names::new(rt.alloc())?;
-        let tokens = lexed(&rt, rt.alloc(), Part::Spec, text.as_bytes(), &mut names)?;
-        let shown = kinds(rt.alloc(), &tokens)?;
-        assert_eq!(rt; shown.as_str(), want, "at {text:?}");
-    }
-    Ok(())
+    have_kinds(&rt, rt.alloc(), &rows)
+}
+
+#[test]
+fn the_marks_of_calls(rt: HostRuntime) -> Result<(), Fail> {
+    let rows = [
+        ("new C().f()", " New #3 Open Close Dot #4 Open Close"),
+        ("a.b", " #3 Dot #4"),
+        ("a...b", " #3 Dot Dot Dot #4"),
+        ("1.5", " 1 Dot 5"),
+        ("news new_ New", " #3 #4 #5"),
+    ];
+    have_kinds(&rt, rt.alloc(), &rows)
 }
 
 // Whether a text is refused, and not for want of memory.
@@ -102,13 +119,12 @@ fn other_words(rt: HostRuntime) -> Result<(), Fail> {
 
 #[test]
 fn other_characters(rt: HostRuntime) -> Result<(), Fail> {
-    let rows: [&[u8]; 12] = [
+    let rows: [&[u8]; 11] = [
         b"-- x",
         b"a - b",
         b"a = b",
         b"a ===> b",
         b"f(a, b)",
-        b"1.5",
         b"\"a\"",
         b"a\x0cb",
         b"a\0",

@@ -1,4 +1,5 @@
 use super::*;
+use std::process::Abort;
 use std::test::Fail;
 use vdm_kinds::{Name, Place, SpecKind};
 use vdm_tree::Block;
@@ -72,68 +73,151 @@ fn texts_with_a_tree(rt: HostRuntime) -> Result<(), Fail> {
     Ok(())
 }
 
-#[test]
-fn texts_without_a_tree(rt: HostRuntime) -> Result<(), Fail> {
-    let rows: [&[u8]; 50] = [
-        b"class while end while",
-        b"class real end real",
-        b"class pure end pure",
-        b"class RESULT end RESULT",
-        b"class C instance variables nat : nat := 0; end C",
-        b"class C instance variables n : nat := 0; n : nat := 1; end C",
-        b"class C operations public f : () ==> () f() == f(); public f : () ==> () f() == f(); end C",
-        b"class C instance variables f : nat := 0; operations public f : () ==> () f() == f(); end C",
-        b"class C instance variables C : nat := 0; end C",
-        b"class C operations public C : () ==> () C() == C(); end C",
-        b"class IO end IO",
-        b"class C operations public f : () ==> () f() == g(); public g : () ==> nat g() == (return 1); end C",
-        b"class C operations public f : () ==> () f() == g(); end C",
-        b"class C instance variables n : nat := 0; operations public f : () ==> () f() == n(); end C",
-        b"class C end D",
-        b"class C operations public f : () ==> () g() == f(); end C",
-        b"class C instance variables n : nat := 0 end C",
-        b"class C operations public f : () ==> () f() == f() end C",
-        b"class C operations public f : () ==> () f() == (f() f()); end C",
-        b"class C operations public f : () ==> nat f() == (return n); end C",
-        b"class C operations public f : () ==> nat f() == (return f); end C",
-        b"class C operations public f : () ==> nat f() == (return C); end C",
-        b"class C operations public f : () ==> () f() == f := 1; end C",
-        b"class C operations public f : () ==> () f() == n := 1; end C",
-        b"class C operations public f : () ==> nat f() == return 1; end C",
-        b"class C operations public f : () ==> () f() == (return 1); end C",
-        b"class C operations public f : () ==> nat f() == (return 1; f()); end C",
-        b"class C operations public f : () ==> nat f() == (return 1; return 1); end C",
-        b"class C operations public f : () ==> nat f() == (return); end C",
-        b"class C operations public f : () ==> nat f() == ((return 1)); end C",
-        b"class C operations public f : () ==> nat f() == (return 1;); end C",
-        b"class C instance variables n : nat := 170141183460469231731687303715884105728; end C",
-        b"class C -- nothing\nend C",
-        b"class C /* nothing */ end C",
-        b"class mk_x end mk_x",
-        b"class is_x end is_x",
-        b"class _x end _x",
-        b"class 1x end 1x",
-        b"class C end C x",
-        b"class C end C class D end D",
-        b"class C",
-        b"class C operations public f : () ==> () f() == f(); instance variables n : nat := 0; end C",
-        b"class C instance variables end C",
-        b"class C operations end C",
-        b"class C instance variables n : int := 0; end C",
-        b"class C operations f : () ==> () f() == f(); end C",
-        b"class C operations public f : () ==> () f() == (); end C",
-        b"class C instance variables n : nat : = 0; end C",
-        b"class C\x0cend C",
-        b"\xef\xbb\xbfclass C end C",
-    ];
-    for text in rows {
+/// Words that are no identifiers.
+const WORDS_THAT_NAME_NOTHING: [&[u8]; 10] = [
+    b"class while end while",
+    b"class real end real",
+    b"class pure end pure",
+    b"class RESULT end RESULT",
+    b"class C instance variables nat : nat := 0; end C",
+    b"class mk_x end mk_x",
+    b"class is_x end is_x",
+    b"class _x end _x",
+    b"class 1x end 1x",
+    b"class new end new",
+];
+
+/// Members that are named as another or as the class, and a class that is named as the built-in one.
+const NAMES_GIVEN_TWICE: [&[u8]; 6] = [
+    b"class C instance variables n : nat := 0; n : nat := 1; end C",
+    b"class C operations public f : () ==> () f() == f(); public f : () ==> () f() == f(); end C",
+    b"class C instance variables f : nat := 0; operations public f : () ==> () f() == f(); end C",
+    b"class C instance variables C : nat := 0; end C",
+    b"class C operations public C : () ==> () C() == C(); end C",
+    b"class IO end IO",
+];
+
+/// Names that stand for nothing, or for what their places do not want.
+const NAMES_OUT_OF_PLACE: [&[u8]; 8] = [
+    b"class C operations public f : () ==> () f() == g(); public g : () ==> nat g() == (return 1); end C",
+    b"class C operations public f : () ==> () f() == g(); end C",
+    b"class C instance variables n : nat := 0; operations public f : () ==> () f() == n(); end C",
+    b"class C operations public f : () ==> nat f() == (return n); end C",
+    b"class C operations public f : () ==> nat f() == (return f); end C",
+    b"class C operations public f : () ==> nat f() == (return C); end C",
+    b"class C operations public f : () ==> () f() == f := 1; end C",
+    b"class C operations public f : () ==> () f() == n := 1; end C",
+];
+
+/// Returns that are missing, or stand where none may stand.
+const RETURNS_OUT_OF_PLACE: [&[u8]; 6] = [
+    b"class C operations public f : () ==> nat f() == return 1; end C",
+    b"class C operations public f : () ==> () f() == (return 1); end C",
+    b"class C operations public f : () ==> nat f() == (return 1; f()); end C",
+    b"class C operations public f : () ==> nat f() == (return 1; return 1); end C",
+    b"class C operations public f : () ==> nat f() == (return); end C",
+    b"class C operations public f : () ==> nat f() == ((return 1)); end C",
+];
+
+/// Classes that do not end, end with another name, or have something behind them.
+const CLASSES_THAT_DO_NOT_END: [&[u8]; 4] = [
+    b"class C end D",
+    b"class C end C x",
+    b"class C end C class D end D",
+    b"class C",
+];
+
+/// Blocks in another order, or with no definition.
+const OTHER_BLOCKS: [&[u8]; 3] = [
+    b"class C operations public f : () ==> () f() == f(); instance variables n : nat := 0; end C",
+    b"class C instance variables end C",
+    b"class C operations end C",
+];
+
+/// Definitions without a `;`, a type, an access or a second name that fit.
+const OTHER_DEFINITIONS: [&[u8]; 6] = [
+    b"class C operations public f : () ==> () g() == f(); end C",
+    b"class C instance variables n : nat := 0 end C",
+    b"class C operations public f : () ==> () f() == f() end C",
+    b"class C instance variables n : int := 0; end C",
+    b"class C operations f : () ==> () f() == f(); end C",
+    b"class C instance variables n : nat : = 0; end C",
+];
+
+/// Bodies that are no statements so far.
+const OTHER_BODIES: [&[u8]; 6] = [
+    b"class C operations public f : () ==> () f() == (f() f()); end C",
+    b"class C operations public f : () ==> nat f() == (return 1;); end C",
+    b"class C operations public f : () ==> () f() == (); end C",
+    b"class C operations public f : () ==> () f() == new C().f(); end C",
+    b"class C operations public f : () ==> () f() == C.f(); end C",
+    b"class C operations public f : () ==> nat f() == (return new C().f()); end C",
+];
+
+/// A literal that is too large, comments, and characters that are no white space.
+const OTHER_CHARACTERS: [&[u8]; 5] = [
+    b"class C instance variables n : nat := 170141183460469231731687303715884105728; end C",
+    b"class C -- nothing\nend C",
+    b"class C /* nothing */ end C",
+    b"class C\x0cend C",
+    b"\xef\xbb\xbfclass C end C",
+];
+
+/// Each of the texts is refused where it begins.
+fn are_refused(rt: &impl Abort, alloc: Global, texts: &[&[u8]]) -> Result<(), Fail> {
+    for text in texts {
         assert_eq!(rt;
-            refusal(rt.alloc(), text)?,
+            refusal(alloc, text)?,
             Some(syntax_fault_at_the_start()),
             "at {text:?}"
         );
     }
     Ok(())
+}
+
+#[test]
+fn words_that_name_nothing(rt: HostRuntime) -> Result<(), Fail> {
+    are_refused(&rt, rt.alloc(), &WORDS_THAT_NAME_NOTHING)
+}
+
+#[test]
+fn names_given_twice(rt: HostRuntime) -> Result<(), Fail> {
+    are_refused(&rt, rt.alloc(), &NAMES_GIVEN_TWICE)
+}
+
+#[test]
+fn names_out_of_place(rt: HostRuntime) -> Result<(), Fail> {
+    are_refused(&rt, rt.alloc(), &NAMES_OUT_OF_PLACE)
+}
+
+#[test]
+fn returns_out_of_place(rt: HostRuntime) -> Result<(), Fail> {
+    are_refused(&rt, rt.alloc(), &RETURNS_OUT_OF_PLACE)
+}
+
+#[test]
+fn classes_that_do_not_end(rt: HostRuntime) -> Result<(), Fail> {
+    are_refused(&rt, rt.alloc(), &CLASSES_THAT_DO_NOT_END)
+}
+
+#[test]
+fn other_blocks(rt: HostRuntime) -> Result<(), Fail> {
+    are_refused(&rt, rt.alloc(), &OTHER_BLOCKS)
+}
+
+#[test]
+fn other_definitions(rt: HostRuntime) -> Result<(), Fail> {
+    are_refused(&rt, rt.alloc(), &OTHER_DEFINITIONS)
+}
+
+#[test]
+fn other_bodies(rt: HostRuntime) -> Result<(), Fail> {
+    are_refused(&rt, rt.alloc(), &OTHER_BODIES)
+}
+
+#[test]
+fn other_characters(rt: HostRuntime) -> Result<(), Fail> {
+    are_refused(&rt, rt.alloc(), &OTHER_CHARACTERS)
 }
 
 /// A class of one operation whose body is `inside` in this many brackets.

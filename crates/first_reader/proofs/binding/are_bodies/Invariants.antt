@@ -1,6 +1,7 @@
 use Rattle.std.proofs.Common.{◌≡◌, map, drop, flat_map}
 use Rattle.std.specs.List.{list_all}
-use Rattle.vdm_grammar.specs.Binding.{is_body, operations_in}
+use Rattle.vdm_grammar.specs.Binding.{is_body}
+use Rattle.abstract_syntax.specs.Classes.{operations_in}
 use Rattle.vdm_tree.specs.ClassView.{block_view}
 use Rattle.first_reader.specs.Scopes.{scope_view}
 use Rattle.first_reader.proofs.binding.are_bodies.Given as goal

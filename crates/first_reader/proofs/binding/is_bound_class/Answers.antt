@@ -1,6 +1,7 @@
 use Rattle.std.proofs.Common.{List, ◌∷◌, map, flat_map, ap, sym, ◌∙◌}
 use Rattle.std.specs.List.{list_all}
-use Rattle.vdm_grammar.specs.Binding.{is_body, operations_in, member_names}
+use Rattle.vdm_grammar.specs.Binding.{is_body, member_names}
+use Rattle.abstract_syntax.specs.Classes.{operations_in}
 use Rattle.vdm_tree.specs.ClassView.{class_view, block_view}
 use Rattle.vdm_tree.specs.declared.class_def.Block.{Block}
 use Rattle.first_reader.specs.Scopes.{differ, scope_view}

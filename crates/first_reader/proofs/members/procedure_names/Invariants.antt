@@ -1,6 +1,6 @@
 use Rattle.std.proofs.Common.{◌≡◌, ◌++◌, map, drop, flat_map}
 use Rattle.vdm_tree.specs.ClassView.{block_view}
-use Rattle.vdm_grammar.specs.Binding.{operations_in}
+use Rattle.abstract_syntax.specs.Classes.{operations_in}
 use Rattle.first_reader.specs.Scopes.{procedure_numbers}
 use Rattle.first_reader.proofs.members.procedure_names.Given as goal
 

@@ -1,6 +1,6 @@
 use Rattle.std.proofs.Common.{◌≡◌, ◌++◌, map, drop, flat_map}
 use Rattle.vdm_tree.specs.ClassView.{block_view}
-use Rattle.vdm_grammar.specs.Binding.{variables_in}
+use Rattle.abstract_syntax.specs.Classes.{variables_in}
 use Rattle.first_reader.specs.Scopes.{variable_numbers}
 use Rattle.first_reader.proofs.members.variable_names.Given as goal
 
