@@ -1,6 +1,8 @@
 -- The laws of plans, for each type of tasks, results, questions, answers and faults.
-use Rattle.std.specs.Prelude.{ℕ, zero, suc, ◌≤◌, List, ◌++◌, ◌≡◌}
-use Rattle.plans.specs.Plans.{Plan, Outcome, faults, needs, onward, run, go, meaning, bind, Leaves, Outlasts}
+use Rattle.std.specs.Prelude.{ℕ, zero, suc, ◌*◌, ◌<◌, ◌≤◌, List, length, ◌++◌, ◌≡◌}
+use Rattle.plans.specs.Plans.{Plan, Outcome, faults, needs, onward, run, go, meaning, bind, Leaves, Outlasts, TakesFrom}
+use Rattle.plans.specs.Bound.{AsksAtMost}
+use Rattle.plans.specs.Steps.{Rules, Step, Plays, Safe, Sound}
 
 -- with no unit a task is its fault; else it takes one and follows its plan, in which each part means what it means alone
 pub record Equation (T R Q A F : Type 0) : Type 0 where
@@ -24,3 +26,15 @@ pub record AnswersOnlyAdd (T R Q A F : Type 0) : Type 0 where
 -- a plan with another on its result is followed as the one and then the other
 abbrev pub BindFollows : (T R Q A F : Type 0) → Type 0
 BindFollows T R Q A F = (means : T → List A → ℕ → Outcome R Q A F) (p : Plan T R Q A F) (next : R → Plan T R Q A F) (bs : List A) (u : ℕ) → run means (bind p next) bs u ≡ onward (run means p bs u) (λ r. run means (next r))
+
+-- an outcome that was reached took some answers from the front, and takes them whatever stands behind
+abbrev pub AnswersAreTakenFromTheFront : (T R Q A F : Type 0) → Type 0
+AnswersAreTakenFromTheFront T R Q A F = (plan : T → Plan T R Q A F) (spent : T → F) (p : Plan T R Q A F) (bs : List A) (u : ℕ) → TakesFrom (λ cs. run (meaning plan spent) p cs u) bs (run (meaning plan spent) p bs u)
+
+-- where each plan asks at most k questions of its own, a task that waits was given fewer than k answers for each unit, so with k for each it needs none
+abbrev pub QuestionsAreBounded : (T R Q A F : Type 0) → Type 0
+QuestionsAreBounded T R Q A F = (plan : T → Plan T R Q A F) (spent : T → F) (k : ℕ) → ((t : T) → AsksAtMost k (plan t)) → (t : T) (bs : List A) (u : ℕ) (q : Q) → meaning plan spent t bs u ≡ needs q → length bs < k * u
+
+-- where the plan of each task keeps the rules, each plan that keeps them is sound: a result was earned, and a question may be asked
+abbrev pub StepsAreSound : {T R Q A H : Type 0} → Type 0 → Rules T R Q A H → (H → R → Type 0) → Type 0
+StepsAreSound {T = T} {R = R} {Q = Q} {A = A} {H = H} F rules left = (plan : T → Plan T R Q A F) (spent : T → F) → ((t : T) (h : H) → rules.Fits h t → Safe rules (rules.Leaves t) h h (plan t)) → (p : Plan T R Q A F) (first h : H) → Safe rules left first h p → (u : ℕ) (steps : List (Step A H)) → Plays rules (λ bs. run (meaning plan spent) p bs u) h steps → Sound rules left first h steps (λ bs. run (meaning plan spent) p bs u)

@@ -1,2 +1,4 @@
+pub mod Bound
 pub mod Laws
 pub mod Plans
+pub mod Steps

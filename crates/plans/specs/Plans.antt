@@ -63,3 +63,9 @@ abbrev pub Outlasts : {R Q A F : Type 0} → List A → Outcome R Q A F → Outc
 Outlasts more (gives r left v) longer = longer ≡ gives r (left ++ more) v
 Outlasts more (faults f left) longer = longer ≡ faults f (left ++ more)
 Outlasts more (needs q) longer = Unit {0}
+
+-- `f` says what answers come to: an outcome that was reached with `bs` took some of them from the front, and `f` takes these whatever stands behind
+abbrev pub TakesFrom : {R Q A F : Type 0} → (List A → Outcome R Q A F) → List A → Outcome R Q A F → Type 0
+TakesFrom {A = A} f bs (gives r left v) = (taken : List A) × (bs ≡ taken ++ left) × ((more : List A) → f (taken ++ more) ≡ gives r more v)
+TakesFrom {A = A} f bs (faults fault left) = (taken : List A) × (bs ≡ taken ++ left) × ((more : List A) → f (taken ++ more) ≡ faults fault more)
+TakesFrom f bs (needs q) = Unit {0}
