@@ -3,3 +3,4 @@ pub mod Made
 pub mod Parts
 pub mod Wanted
 pub mod Laws
+pub mod Numbers

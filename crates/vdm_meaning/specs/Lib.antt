@@ -1,8 +1,15 @@
 pub mod Faults
 pub mod Operators
+pub mod Tasks
+pub mod Types
+pub mod Calls
 pub mod Expressions
-pub mod Valuation
+pub mod Statements
+pub mod TaskPlans
 pub mod Main
+pub mod State
 pub mod Entries
 pub mod Runs
-pub mod ClassEntries
+pub mod Order
+pub mod Ready
+pub mod Worked

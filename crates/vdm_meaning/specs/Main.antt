@@ -2,16 +2,17 @@
 use Rattle.std.specs.Prelude.{ℕ, ◌+◌, List, [], ◌∷◌}
 use Rattle.vdm_kinds.specs.declared.name.Name.{Name}
 use Rattle.vdm_kinds.specs.NameList.{io}
-use Rattle.vdm_values.specs.declared.slot.Slot.TheVariants.{Held}
-use Rattle.abstract_syntax.specs.Values.{ValueTree}
+use Rattle.vdm_values.specs.declared.slot.Slot.{Slot}
+use Rattle.vdm_values.specs.declared.slot.Slot.TheVariants.{Unset}
 use Rattle.abstract_syntax.specs.Classes.{SpecTree, class_names}
-use Rattle.abstract_syntax.specs.Expressions.{ExprTree}
+use Rattle.abstract_syntax.specs.Expressions.{ExprTree, apply, create}
 use Rattle.run_journal.specs.declared.answer.Answer.{Answer}
 use Rattle.run_journal.specs.declared.question.Question.{Question}
 use Rattle.run_journal.specs.declared.question.Question.TheVariants.{Class, End, Fail}
 use Rattle.plans.specs.Plans.{Outcome, gives, faults, needs, finish, ask, part, run, meaning}
 use Rattle.vdm_meaning.specs.Faults.{Fault}
-use Rattle.vdm_meaning.specs.Expressions.{Code, expr_in, plan_of, spent}
+use Rattle.vdm_meaning.specs.Tasks.{outside, Task, expr_in, call_in, Flow, gave, next, returned, Code, spent}
+use Rattle.vdm_meaning.specs.TaskPlans.{plan_of}
 
 -- the classes whose class objects are made, in order: `IO`, whose class object is object 0, and then those of the text
 abbrev pub classes_of : SpecTree → List Name
@@ -21,9 +22,25 @@ classes_of spec = io ∷ class_names spec
 abbrev pub step_limit : ℕ
 step_limit = 1000000
 
--- with its value main ends
-abbrev pub end_with : ValueTree → Code
-end_with v = ask (End (Held v)) (λ _. finish v)
+-- the slot that main ends with
+abbrev pub end_slot : Flow → Slot
+end_slot (gave slot) = slot
+end_slot next = Unset
+end_slot (returned slot) = slot
+
+-- with its value, or without one, main ends
+abbrev pub end_with : Flow → Code
+end_with flow = ask (End (end_slot flow)) (λ _. finish flow)
+
+-- of a call that is the whole expression no value is wanted
+abbrev pub whole_expression : ExprTree → Task
+whole_expression (apply head arguments place) = call_in outside (apply head arguments place)
+whole_expression tree = expr_in outside tree
+
+-- an expression whose value is no object
+abbrev pub GivesNoObject : ExprTree → Type 0
+GivesNoObject (create class class_place arguments place) = ⊥
+GivesNoObject _ = Unit {0}
 
 -- Class objects are made from this number on, and then `after` is done. So far no class has a static variable.
 abbrev pub make_class_objects : ℕ → List Name → Code → Code
@@ -32,7 +49,7 @@ make_class_objects object (class ∷ classes) after = ask (Class object class []
 
 -- main makes the class objects, evaluates the expression, and ends
 abbrev pub main_plan : SpecTree → ExprTree → Code
-main_plan spec tree = make_class_objects 0 (classes_of spec) (part (expr_in tree) end_with)
+main_plan spec tree = make_class_objects 0 (classes_of spec) (part (whole_expression tree) end_with)
 
 -- where a thread stands: it needs the answer to a question, or it is over
 pub data Standing : Type 0 where
@@ -40,12 +57,12 @@ pub data Standing : Type 0 where
   over : Standing
 
 -- a fault asks to fail, and behind the answer to that, or to the end, the thread is over
-abbrev pub standing_of : Outcome ValueTree Question Answer Fault → Standing
-standing_of (gives v answers units) = over
+abbrev pub standing_of : Outcome Flow Question Answer Fault → Standing
+standing_of (gives flow answers units) = over
 standing_of (needs question) = asks question
 standing_of (faults f []) = asks (Fail f.fault f.exit f.place)
 standing_of (faults f (answer ∷ answers)) = over
 
 -- where main stands after its answers, with this many units
 abbrev pub main_code : SpecTree → ExprTree → ℕ → List Answer → Standing
-main_code spec tree units answers = standing_of (run (meaning plan_of spent) (main_plan spec tree) answers units)
+main_code spec tree units answers = standing_of (run (meaning (plan_of spec) spent) (main_plan spec tree) answers units)

@@ -1,4 +1,4 @@
-use Rattle.vdm_meaning.proofs.Worked.{one_and_one, one_and_one-over, too_few_units, one_too_many, beside_a_class, beside_a_class-over}
+use Rattle.vdm_meaning.proofs.WorkedSums.{one_and_one, one_and_one-over, too_few_units, one_too_many, beside_a_class, beside_a_class-over}
 use Rattle.vdm_meaning.proofs.laws.worked_sums.Goals as goal
 
 pub returns-clause-ends : goal.returns-clause-ends

@@ -1,0 +1,178 @@
+-- What every journal keeps: its counters rise in order, and its objects hold numbers; and how it grows while a task is done.
+use Rattle.std.proofs.Common.{◌≡◌, ℕ, ◌+◌, ◌≤◌, ◌<◌, Bool, false, List, [], ◌∷◌, ◌++◌, refl, sym, ap, ◌∙◌, append_assoc, append-nil, arith}
+use Rattle.std.specs.List.{AllByRecursion as Each}
+use Rattle.vdm_kinds.specs.declared.member.OpRef.{OpRef}
+use Rattle.vdm_kinds.specs.declared.name.Name.{Name}
+use Rattle.abstract_syntax.specs.Classes.{is_same_name}
+use Rattle.run_journal.specs.declared.deed.Deed.{Deed}
+use Rattle.run_journal.specs.declared.deed.Deed.TheVariants as deed
+use Rattle.run_journal.specs.declared.entry.Entry.{Entry}
+use Rattle.run_journal.specs.declared.thread.Thread.TheVariants.{Main}
+use Rattle.run_journal.specs.Made.{entry}
+use Rattle.run_journal.specs.Numbers.{IsNumberSlot, IsNumberPair}
+use Rattle.vdm_meaning.specs.State.{is_request, is_activation, is_finish}
+use Rattle.vdm_meaning.proofs.Counting.{counted, counted-more, counted-one, adds, adds-none, adds-here}
+
+-- what a deed gives a variable is a number or nothing
+abbrev pub KeepsNumbers : Deed → Type 0
+KeepsNumbers (deed.New class slots) = Each IsNumberSlot slots
+KeepsNumbers (deed.Write pairs refused) = Each IsNumberPair pairs
+KeepsNumbers _ = Unit {0}
+
+-- of each name on each object there are at most as many activations as requests, and as finishes activations
+pub record IsSane (entries : List Entry) : Type 0 where
+  pub begun : (o : ℕ) (name : Name) → counted (is_activation name) o entries ≤ counted (is_request name) o entries
+  pub done : (o : ℕ) (name : Name) → counted (is_finish name) o entries ≤ counted (is_activation name) o entries
+  pub numbers : Each (λ (e : Entry). KeepsNumbers e.deed) entries
+
+-- the later entries are the earlier ones and more, by which requests, activations and finishes rise alike
+pub record IsWithin (first later : List Entry) : Type 0 where
+  pub more : List Entry
+  pub behind : later ≡ first ++ more
+  pub begun : (o : ℕ) (name : Name) → counted (is_request name) o later + counted (is_activation name) o first ≡ counted (is_request name) o first + counted (is_activation name) o later
+  pub done : (o : ℕ) (name : Name) → counted (is_request name) o later + counted (is_finish name) o first ≡ counted (is_request name) o first + counted (is_finish name) o later
+
+pub within-self : (entries : List Entry) → IsWithin entries entries
+within-self entries = record { more = []; behind = sym (append-nil entries); begun = λ o name. omega arith; done = λ o name. omega arith }
+
+pub within-then : (a b c : List Entry) → IsWithin a b → IsWithin b c → IsWithin a c
+within-then a b c h k = record {
+  more = h.more ++ k.more;
+  behind = k.behind ∙ ap (λ xs. xs ++ k.more) h.behind ∙ append_assoc a h.more k.more;
+  begun = λ o name. omega (arith, h.begun o name, k.begun o name);
+  done = λ o name. omega (arith, h.done o name, k.done o name);
+}
+
+each-more : (before : List Entry) (e : Entry) → Each (λ (e : Entry). KeepsNumbers e.deed) before → KeepsNumbers e.deed → Each (λ (e : Entry). KeepsNumbers e.deed) (before ++ e ∷ [])
+each-more [] e h k = (k, tt)
+each-more (x ∷ before) e h k = (h.0, each-more before e h.1 k)
+
+-- ---- one entry more
+
+-- what an entry adds to the counters of a name on an object
+record Tally (before after : List Entry) (o : ℕ) (name : Name) (r a f : ℕ) : Type 0 where
+  requested : counted (is_request name) o after ≡ counted (is_request name) o before + r
+  activated : counted (is_activation name) o after ≡ counted (is_activation name) o before + a
+  finished : counted (is_finish name) o after ≡ counted (is_finish name) o before + f
+
+counted-on : (test : Deed → Bool) (me o : ℕ) (d : Deed) (before : List Entry) (b : Bool) → test d ≡ b → counted test o (before ++ entry Main me d ∷ []) ≡ counted test o before + adds me o b
+counted-on test me o d before b e = counted-more test o before (entry Main me d ∷ []) ∙ ap (λ n. counted test o before + n) (counted-one test me o d ∙ ap (adds me o) e)
+
+counted-off : (test : Deed → Bool) (me o : ℕ) (d : Deed) (before : List Entry) → test d ≡ false → counted test o (before ++ entry Main me d ∷ []) ≡ counted test o before + 0
+counted-off test me o d before e = counted-on test me o d before false e ∙ ap (λ n. counted test o before + n) (adds-none me o)
+
+module _ (before : List Entry) (me : ℕ) (op : OpRef) (o : ℕ) (name : Name) where
+  req-tally : Tally before (before ++ entry Main me (deed.Req op) ∷ []) o name (adds me o (is_same_name name op.name)) 0 0
+  req-tally = record {
+    requested = counted-on (is_request name) me o (deed.Req op) before (is_same_name name op.name) refl;
+    activated = counted-off (is_activation name) me o (deed.Req op) before refl;
+    finished = counted-off (is_finish name) me o (deed.Req op) before refl;
+  }
+
+  act-tally : Tally before (before ++ entry Main me (deed.Act op) ∷ []) o name 0 (adds me o (is_same_name name op.name)) 0
+  act-tally = record {
+    requested = counted-off (is_request name) me o (deed.Act op) before refl;
+    activated = counted-on (is_activation name) me o (deed.Act op) before (is_same_name name op.name) refl;
+    finished = counted-off (is_finish name) me o (deed.Act op) before refl;
+  }
+
+  fin-tally : Tally before (before ++ entry Main me (deed.Fin op) ∷ []) o name 0 0 (adds me o (is_same_name name op.name))
+  fin-tally = record {
+    requested = counted-off (is_request name) me o (deed.Fin op) before refl;
+    activated = counted-off (is_activation name) me o (deed.Fin op) before refl;
+    finished = counted-on (is_finish name) me o (deed.Fin op) before (is_same_name name op.name) refl;
+  }
+
+-- ---- deeds that are no part of a call
+
+abbrev pub IsQuiet : Deed → Type 0
+IsQuiet d = (name : Name) → (is_request name d ≡ false) × (is_activation name d ≡ false) × (is_finish name d ≡ false)
+
+module _ (before : List Entry) (me : ℕ) (d : Deed) (quiet : IsQuiet d) where
+  quiet-tally : (o : ℕ) (name : Name) → Tally before (before ++ entry Main me d ∷ []) o name 0 0 0
+  quiet-tally o name = record {
+    requested = counted-off (is_request name) me o d before (quiet name).0;
+    activated = counted-off (is_activation name) me o d before (quiet name).1;
+    finished = counted-off (is_finish name) me o d before (quiet name).2;
+  }
+
+  pub quiet-sane : IsSane before → KeepsNumbers d → IsSane (before ++ entry Main me d ∷ [])
+  quiet-sane sane numbers = record {
+    begun = λ o name. let t = quiet-tally o name in omega (arith, sane.begun o name, t.requested, t.activated);
+    done = λ o name. let t = quiet-tally o name in omega (arith, sane.done o name, t.activated, t.finished);
+    numbers = each-more before (entry Main me d) sane.numbers numbers;
+  }
+
+  pub quiet-within : IsWithin before (before ++ entry Main me d ∷ [])
+  quiet-within = record {
+    more = entry Main me d ∷ [];
+    behind = refl;
+    begun = λ o name. let t = quiet-tally o name in omega (arith, t.requested, t.activated);
+    done = λ o name. let t = quiet-tally o name in omega (arith, t.requested, t.finished);
+  }
+
+-- ---- a call: its request, its activation, what its body does, and its finish
+
+abbrev pub behind_request : List Entry → ℕ → OpRef → List Entry
+behind_request before me op = before ++ entry Main me (deed.Req op) ∷ []
+
+abbrev pub behind_activation : List Entry → ℕ → OpRef → List Entry
+behind_activation before me op = behind_request before me op ++ entry Main me (deed.Act op) ∷ []
+
+abbrev pub behind_finish : List Entry → ℕ → OpRef → List Entry
+behind_finish after me op = after ++ entry Main me (deed.Fin op) ∷ []
+
+module _ (before : List Entry) (me : ℕ) (op : OpRef) (sane : IsSane before) where
+  pub request-sane : IsSane (behind_request before me op)
+  request-sane = record {
+    begun = λ o name. let t = req-tally before me op o name in omega (arith, sane.begun o name, t.requested, t.activated);
+    done = λ o name. let t = req-tally before me op o name in omega (arith, sane.done o name, t.activated, t.finished);
+    numbers = each-more before (entry Main me (deed.Req op)) sane.numbers tt;
+  }
+
+  pub act-waits : counted (is_activation op.name) me (behind_request before me op) < counted (is_request op.name) me (behind_request before me op)
+  act-waits = let t = req-tally before me op me op.name in omega (arith, sane.begun me op.name, t.requested, t.activated, adds-here me op.name)
+
+  pub begun-sane : IsSane (behind_activation before me op)
+  begun-sane = record {
+    begun = λ o name. let t = req-tally before me op o name in let s = act-tally (behind_request before me op) me op o name in omega (arith, sane.begun o name, t.requested, t.activated, s.requested, s.activated);
+    done = λ o name. let t = req-tally before me op o name in let s = act-tally (behind_request before me op) me op o name in omega (arith, sane.done o name, t.activated, t.finished, s.activated, s.finished);
+    numbers = each-more (behind_request before me op) (entry Main me (deed.Act op)) request-sane.numbers tt;
+  }
+
+  module _ (after : List Entry) (within : IsWithin (behind_activation before me op) after) where
+    pub fin-waits : counted (is_finish op.name) me after < counted (is_activation op.name) me after
+    fin-waits =
+        let t = req-tally before me op me op.name in
+        let s = act-tally (behind_request before me op) me op me op.name in
+        omega (arith, sane.done me op.name, t.activated, t.finished, s.activated, s.finished, adds-here me op.name, within.begun me op.name, within.done me op.name)
+
+    pub finished-sane : IsSane after → IsSane (behind_finish after me op)
+    finished-sane still = record {
+      begun = λ o name. let u = fin-tally after me op o name in omega (arith, still.begun o name, u.requested, u.activated);
+      done = λ o name.
+          let t = req-tally before me op o name in
+          let s = act-tally (behind_request before me op) me op o name in
+          let u = fin-tally after me op o name in
+          omega (arith, sane.done o name, t.activated, t.finished, s.activated, s.finished, within.begun o name, within.done o name, u.activated, u.finished);
+      numbers = each-more after (entry Main me (deed.Fin op)) still.numbers tt;
+    }
+
+    pub finished-within : IsWithin before (behind_finish after me op)
+    finished-within = record {
+      more = entry Main me (deed.Req op) ∷ entry Main me (deed.Act op) ∷ (within.more ++ entry Main me (deed.Fin op) ∷ []);
+      behind = ap (λ xs. xs ++ entry Main me (deed.Fin op) ∷ []) within.behind
+          ∙ append_assoc (behind_activation before me op) within.more (entry Main me (deed.Fin op) ∷ [])
+          ∙ append_assoc (behind_request before me op) (entry Main me (deed.Act op) ∷ []) (within.more ++ entry Main me (deed.Fin op) ∷ [])
+          ∙ append_assoc before (entry Main me (deed.Req op) ∷ []) (entry Main me (deed.Act op) ∷ (within.more ++ entry Main me (deed.Fin op) ∷ []));
+      begun = λ o name.
+          let t = req-tally before me op o name in
+          let s = act-tally (behind_request before me op) me op o name in
+          let u = fin-tally after me op o name in
+          omega (arith, t.requested, t.activated, s.requested, s.activated, within.begun o name, u.requested, u.activated);
+      done = λ o name.
+          let t = req-tally before me op o name in
+          let s = act-tally (behind_request before me op) me op o name in
+          let u = fin-tally after me op o name in
+          omega (arith, t.requested, t.finished, s.requested, s.finished, within.done o name, u.requested, u.finished);
+    }
