@@ -1,0 +1,6 @@
+use Rattle.stmt_exec.specs.Tables.{table_spec}
+use Rattle.stmt_exec.proofs.Resting.{failed}
+use Rattle.stmt_exec.proofs.machine.Machine.rest_after.Goals as goal
+
+pub returns-in-Fails-clause-same : goal.returns-in-Fails-clause-same
+returns-in-Fails-clause-same c = λ answers. failed (table_spec c.args.self.now.table.now) c.args.self.now.frames.items c.args.self.now.fuel c.args.rest _ _ c.args.answer answers c.in-Fails.is

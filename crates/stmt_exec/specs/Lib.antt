@@ -1,0 +1,5 @@
+pub mod Definitions
+pub mod Tables
+pub mod Parts
+pub mod Steps
+pub mod Standing
