@@ -1,4 +1,5 @@
-mod Views
-mod Outcomes
 mod ClassNames
-mod Main
+mod Staying
+mod Moves
+mod Next
+mod Steps

@@ -1,4 +1,2 @@
-pub mod FewClasses
-pub mod Outcomes
 pub mod Standings
-pub mod Finishes
+pub mod Asked

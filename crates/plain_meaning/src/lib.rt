@@ -1,17 +1,21 @@
-//! The plain slow program: what a thread asks next, and which lists of entries are runs, worked out from the start each time.
+//! The plain slow program: what main asks next, and which lists of entries are runs, worked out from the start each time.
 #![tactic(auto)]
 
+mod asked;
 mod classes;
-mod evaluation;
-mod finish;
-mod legal_entry;
-mod operators;
+mod counts;
+mod given;
+mod layout;
+mod legal;
+mod order;
 mod run;
 mod standing;
+mod state;
 #[cfg(test)]
 mod tests;
-mod told;
+mod writes;
 
-pub use finish::{Finish, finish_of};
+pub use order::is_in_order;
+pub use plain_store::{Finish, finish_of};
 pub use run::is_run;
 pub use standing::{Standing, next_question};

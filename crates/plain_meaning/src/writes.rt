@@ -1,0 +1,55 @@
+// What was written to a variable.
+
+ghost use Rattle.std.specs.Prelude.{◌≡◌, option_copied};
+ghost use Rattle.run_journal.specs.Parts.{object_part};
+ghost use Rattle.vdm_meaning.specs.State.{is_same_variable, last_written, written_by, written_in};
+
+use run_journal::{Deed, Entry, Write};
+use vdm_kinds::VarRef;
+use vdm_values::Value;
+
+/// The value that the last of the writes on the object gave the variable.
+pub(crate) fn last_written(var: VarRef, object: u32, entries: &[Entry]) -> Option<&Value>
+    ensures { option_copied result ≡ last_written var (object_part object entries.now) }
+{
+    let mut last = None;
+    for entry in entries {
+        if entry.object == object {
+            last = written_by(var, &entry.deed).or(last);
+        }
+    }
+    last
+}
+
+/// What the deed writes to the variable: a write that was refused writes nothing.
+fn written_by(var: VarRef, deed: &Deed) -> Option<&Value>
+    ensures { option_copied result ≡ written_by var deed.now }
+{
+    match deed {
+        Deed::Write {
+            writes,
+            refused: false,
+        } => written_in(var, writes.as_slice()),
+        _ => None,
+    }
+}
+
+/// The value in the last pair of the variable.
+fn written_in(var: VarRef, pairs: &[Write]) -> Option<&Value>
+    ensures { option_copied result ≡ written_in var pairs.now }
+{
+    let mut last = None;
+    for pair in pairs {
+        if is_same_variable(var, pair.var) {
+            last = Some(&pair.value);
+        }
+    }
+    last
+}
+
+/// Whether both are one variable.
+pub(crate) fn is_same_variable(var: VarRef, other: VarRef) -> bool
+    ensures { result ≡ is_same_variable var other }
+{
+    var.class.0 == other.class.0 && var.name.0 == other.name.0
+}
