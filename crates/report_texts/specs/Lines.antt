@@ -1,5 +1,5 @@
 -- The last line of a report. Each ends in a line feed.
-use Rattle.std.specs.Prelude.{◌≡◌, ℕ, List, [], ◌∷◌, ◌++◌, codes}
+use Rattle.std.specs.Prelude.{ℕ, List, [], ◌∷◌, ◌++◌, codes}
 use Rattle.std.specs.Fmt.{decimal}
 use Rattle.vdm_kinds.specs.declared.part.Part.{Part}
 use Rattle.vdm_kinds.specs.declared.part.Part.TheVariants.{Spec, Expr}
@@ -12,7 +12,7 @@ use Rattle.vdm_values.specs.declared.slot.Slot.{Slot}
 use Rattle.vdm_values.specs.declared.slot.Slot.TheVariants.{Unset, Held}
 use Rattle.run_journal.specs.declared.thread.Thread.{Thread}
 use Rattle.run_journal.specs.declared.thread.Thread.TheVariants.{Main, Of, Release, Clock}
-use Rattle.report_texts.specs.Values.{HasText}
+use Rattle.report_texts.specs.Values.{value_text}
 
 abbrev pub line : List ℕ → List ℕ
 line text = text ++ 10 ∷ []
@@ -48,6 +48,6 @@ failed_line fault thread place =
     line (codes "fault: " ++ decimal (run_number fault) ++ codes " " ++ run_name fault ++ codes " in " ++ thread_text thread ++ codes " at " ++ place_text place)
 
 -- as `result: 2`, and `result: ()` without a value
-abbrev pub IsResultLine : Slot → List ℕ → Type 0
-IsResultLine Unset text = text ≡ line (codes "result: ()")
-IsResultLine (Held v) text = (value : List ℕ) × HasText v value × (text ≡ line (codes "result: " ++ value))
+abbrev pub result_line : Slot → List ℕ
+result_line Unset = line (codes "result: ()")
+result_line (Held v) = line (codes "result: " ++ value_text v)

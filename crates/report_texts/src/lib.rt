@@ -3,4 +3,4 @@
 
 mod laws;
 
-pub use laws::{one_command, worked_lines};
+pub use laws::{one_command, worked_lines, worked_log};

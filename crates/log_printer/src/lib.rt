@@ -1,0 +1,18 @@
+//! The lines of the log, and the report that they stand in.
+#![tactic(auto)]
+
+mod deed;
+mod line;
+mod member;
+mod place;
+mod report;
+mod slots;
+#[cfg(test)]
+mod tests;
+mod thread;
+mod writes;
+
+pub use line::log_line;
+pub use place::push_place;
+pub use report::report_text;
+pub use thread::push_thread;

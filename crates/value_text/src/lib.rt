@@ -1,0 +1,10 @@
+//! The texts of values and of slots.
+#![tactic(auto)]
+
+mod slot;
+#[cfg(test)]
+mod tests;
+mod value;
+
+pub use slot::{push_slot, slot_text};
+pub use value::{push_value, text};
