@@ -1,8 +1,8 @@
 -- The ends: their status, their last line, and what a journal decides.
 use Rattle.std.specs.Prelude.{◌≡◌, ℕ, List, Option, Some, None}
-use Rattle.vdm_values.specs.declared.slot.Slot.{Slot}
+use Rattle.run_journal.specs.Numbers.{IsNumberSlot}
 use Rattle.vdm_meaning.specs.Runs.{Finish, ended, failed}
-use Rattle.report_texts.specs.Lines.{usage_line, read_fault_line, refused_line, failed_line, IsResultLine}
+use Rattle.report_texts.specs.Lines.{usage_line, read_fault_line, refused_line, failed_line, result_line}
 use Rattle.vdm_cli.specs.declared.end.End.{End}
 use Rattle.vdm_cli.specs.declared.end.End.TheVariants.{Ended, Refused, Usage, Failed, ReadFault, WriteFault, OutOfMemory}
 
@@ -18,7 +18,7 @@ status_of OutOfMemory = 9
 
 -- the last line of each end: a report that can't be written or made has none
 abbrev pub IsLastLine : End → List ℕ → Type 0
-IsLastLine (Ended slot) text = IsResultLine slot text
+IsLastLine (Ended slot) text = text ≡ result_line slot
 IsLastLine (Refused fault) text = text ≡ refused_line fault
 IsLastLine Usage text = text ≡ usage_line
 IsLastLine (Failed fault exit thread place) text = text ≡ failed_line fault thread place
@@ -32,14 +32,13 @@ finish_in (Ended slot) = Some (ended slot)
 finish_in (Failed fault exit thread place) = Some (failed fault exit thread place)
 finish_in _ = None
 
+-- An end whose report can be made: it has a last line, or memory was wanting. So far a result is a number, or none.
+abbrev pub HasReportLine : End → Type 0
+HasReportLine (Ended slot) = IsNumberSlot slot
+HasReportLine WriteFault = ⊥
+HasReportLine end = Unit {0}
+
 -- an end that has a last line
 abbrev pub HasLastLine : End → Type 0
-HasLastLine end = (text : List ℕ) × IsLastLine end text
-
-abbrev pub HasResultLine : Slot → Type 0
-HasResultLine slot = (text : List ℕ) × IsResultLine slot text
-
--- an end whose report can be made: it has a last line, or memory was wanting
-abbrev pub HasReportLine : End → Type 0
-HasReportLine OutOfMemory = Unit {0}
-HasReportLine end = HasLastLine end
+HasLastLine OutOfMemory = ⊥
+HasLastLine end = HasReportLine end

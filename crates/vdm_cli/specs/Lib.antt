@@ -1,5 +1,6 @@
 pub mod Ends
 pub mod Headline
 pub mod Meant
+pub mod Named
 pub mod RunEnds
 pub mod Written

@@ -1,36 +1,29 @@
--- The last entry of a run, and how the run ends.
-use Rattle.std.specs.Prelude.{◌≡◌, ℤ, List}
+-- How the run of a specification and an expression ends.
+use Rattle.std.specs.Prelude.{◌≡◌, List}
+use Rattle.std.specs.List.{AllByRecursion as Each}
 use Rattle.abstract_syntax.specs.Classes.{SpecTree}
 use Rattle.abstract_syntax.specs.Expressions.{ExprTree}
-use Rattle.abstract_syntax.specs.Values.{number}
-use Rattle.vdm_kinds.specs.declared.place.Place.{Place}
-use Rattle.vdm_kinds.specs.declared.run_fault.RunFault.{RunFault}
-use Rattle.vdm_values.specs.declared.slot.Slot.TheVariants.{Unset, Held}
-use Rattle.run_journal.specs.declared.deed.Deed.TheVariants.{End, Fail}
 use Rattle.run_journal.specs.declared.entry.Entry.{Entry}
-use Rattle.run_journal.specs.declared.thread.Thread.TheVariants.{Main}
-use Rattle.run_journal.specs.Made.{entry}
 use Rattle.vdm_meaning.specs.Main.{step_limit}
+use Rattle.vdm_meaning.specs.Order.{IsInOrder}
 use Rattle.vdm_meaning.specs.Runs.{IsRun, finish_of}
-use Rattle.vdm_cli.specs.declared.end.End.{End as Ending}
+use Rattle.report_texts.specs.Log.{HasLogLine}
+use Rattle.vdm_cli.specs.declared.end.End.{End}
 use Rattle.vdm_cli.specs.declared.end.End.TheVariants.{Ended, Failed, OutOfMemory}
-use Rattle.vdm_cli.specs.Ends.{finish_in, HasLastLine}
+use Rattle.vdm_cli.specs.Ends.{finish_in, HasReportLine}
 
--- main ends with a number
-abbrev pub ended_with : ℤ → Entry
-ended_with n = entry Main 0 (End (Held (number n)))
-
--- main fails, and no exit left it
-abbrev pub failed_at : RunFault → Place → Entry
-failed_at fault place = entry Main 0 (Fail fault Unset place)
-
--- the end is that of the journal's run, and has a last line
-abbrev pub EndsRun : List Entry → Ending → Type 0
-EndsRun journal (Ended slot) = (finish_of journal ≡ finish_in (Ended slot)) × HasLastLine (Ended slot)
+-- the end is that of the journal's run; or memory was wanting
+abbrev pub EndsRun : List Entry → End → Type 0
+EndsRun journal (Ended slot) = finish_of journal ≡ finish_in (Ended slot)
 EndsRun journal (Failed fault exit thread place) = finish_of journal ≡ finish_in (Failed fault exit thread place)
+EndsRun journal OutOfMemory = Unit {0}
 EndsRun journal _ = ⊥
 
--- a run of a specification and an expression: to its end, or as far as memory allowed
-abbrev pub RunsTo : SpecTree → ExprTree → List Entry → Ending → Type 0
-RunsTo spec tree journal OutOfMemory = IsRun spec tree step_limit journal
-RunsTo spec tree journal end = IsRun spec tree step_limit journal × EndsRun journal end
+-- a run of a specification and an expression, in the order of one lane: to its end, or as far as memory allowed; each of its
+-- entries has a line
+pub record RunsTo (spec : SpecTree) (tree : ExprTree) (journal : List Entry) (end : End) : Type 0 where
+  pub run : IsRun spec tree step_limit journal
+  pub order : IsInOrder spec journal
+  pub ends : EndsRun journal end
+  pub lines : Each HasLogLine journal
+  pub line : HasReportLine end

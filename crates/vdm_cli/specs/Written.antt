@@ -1,5 +1,5 @@
 -- What is written of the report of an end.
-use Rattle.std.specs.Prelude.{◌≡◌, ℕ, List}
+use Rattle.std.specs.Prelude.{◌≡◌, ℕ, Bool, List}
 use Rattle.std.specs.Io.KnownBytes.{Appends}
 use Rattle.run_journal.specs.declared.entry.Entry.{Entry}
 use Rattle.vdm_outside.specs.Writing.{AppendsPart}
@@ -9,13 +9,13 @@ use Rattle.vdm_cli.specs.declared.end.End.TheVariants.{WriteFault, OutOfMemory}
 use Rattle.vdm_cli.specs.Ends.{IsLastLine}
 use Rattle.vdm_cli.specs.Meant.{Outside, IsCalm, IsFaulty, IsUntouched}
 
--- the output of a journal and the end that is meant
-abbrev pub IsOutput : List Entry → End → List ℕ → Type 0
-IsOutput journal meant bytes = (last : List ℕ) × IsLastLine meant last × (bytes ≡ output journal last)
+-- the output of a journal over these names, with the log or without, and of the end that is meant
+abbrev pub IsOutput : List (List ℕ) → List Entry → Bool → End → List ℕ → Type 0
+IsOutput names journal log meant bytes = (last : List ℕ) × IsLastLine meant last × (bytes ≡ output names journal log last)
 
 -- What a call wrote of the output, and how it ends then: all of it, a part of it under a write fault, or nothing where
 -- memory was wanting.
-abbrev pub Wrote : List Entry → End → Outside → End → Type 0
-Wrote journal meant sink WriteFault = IsFaulty sink × ((bytes : List ℕ) × IsOutput journal meant bytes × AppendsPart sink.before sink.after bytes)
-Wrote journal meant sink OutOfMemory = IsCalm sink × IsUntouched sink
-Wrote journal meant sink end = IsCalm sink × (end ≡ meant) × ((bytes : List ℕ) × IsOutput journal meant bytes × Appends sink.before sink.after bytes)
+abbrev pub Wrote : List (List ℕ) → List Entry → Bool → End → Outside → End → Type 0
+Wrote names journal log meant sink WriteFault = IsFaulty sink × ((bytes : List ℕ) × IsOutput names journal log meant bytes × AppendsPart sink.before sink.after bytes)
+Wrote names journal log meant sink OutOfMemory = IsCalm sink × IsUntouched sink
+Wrote names journal log meant sink end = IsCalm sink × (end ≡ meant) × ((bytes : List ℕ) × IsOutput names journal log meant bytes × Appends sink.before sink.after bytes)

@@ -4,13 +4,25 @@ ghost use Rattle.std.specs.Prelude.{MatchOption, map};
 ghost use Rattle.std.specs.String.{string_bytes};
 ghost use Rattle.report_texts.specs.Words.{IsRunCommand, IsNoCommand};
 
-/// The text of the expression that the words behind the program's name ask to run, as it stands: `run` and one more
-/// word. None where they are no command.
-pub fn expression_of(words: &[String]) -> Option<&String>
-    ensures { MatchOption result (IsNoCommand (map string_bytes words.now)) (λ text. IsRunCommand (map string_bytes words.now) (string_bytes text.now)) }
+/// A command: to run an expression.
+#[derive(Clone, Copy)]
+pub struct Command<'w> {
+    /// The text of the expression, as it stands.
+    pub text: &'w String,
+    /// Whether the log is asked for.
+    pub log: bool,
+}
+
+/// The command that the words behind the program's name are: `run`, one more word, and then perhaps `--log`. None where
+/// they are no command.
+pub fn command_of(words: &[String]) -> Option<Command<'_>>
+    ensures { MatchOption result (IsNoCommand (map string_bytes words.now)) (λ c. IsRunCommand (map string_bytes words.now) (string_bytes c.text.now) c.log) }
 {
     match words {
-        [first, text] if first.as_str() == "run" => Some(text),
+        [first, text] if first.as_str() == "run" => Some(Command { text, log: false }),
+        [first, text, option] if first.as_str() == "run" && option.as_str() == "--log" => Some(
+            Command { text, log: true },
+        ),
         _ => None,
     }
 }

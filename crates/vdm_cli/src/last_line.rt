@@ -2,14 +2,15 @@
 
 ghost use Rattle.std.specs.Prelude.{◌≡◌, ◌++◌, IfOk, OnOk};
 ghost use Rattle.std.specs.String.{string_bytes};
-ghost use Rattle.report_texts.specs.Lines.{part_text, place_text, thread_text, refused_line, failed_line, IsResultLine};
-ghost use Rattle.vdm_cli.specs.Ends.{IsLastLine, HasLastLine, HasResultLine};
+ghost use Rattle.run_journal.specs.Numbers.{IsNumberSlot};
+ghost use Rattle.report_texts.specs.Lines.{refused_line, failed_line, result_line};
+ghost use Rattle.vdm_cli.specs.Ends.{IsLastLine, HasLastLine};
 
 use crate::end::End;
+use log_printer::{push_place, push_thread};
 use run_journal::Thread;
 use std::alloc::Global;
-use std::fmt::Write;
-use vdm_kinds::{OutOfMemory, Part, Place, RunFault, SpecFault};
+use vdm_kinds::{OutOfMemory, Place, RunFault, SpecFault};
 use vdm_values::{Node, Slot};
 
 const USAGE: &str =
@@ -36,8 +37,8 @@ pub fn last_line(alloc: Global, end: &End) -> Result<String, OutOfMemory>
 }
 
 fn result_line(alloc: Global, slot: &Slot) -> Result<String, OutOfMemory>
-    requires { HasResultLine slot.now }
-    ensures { IfOk result (λ text. IsResultLine slot.now (string_bytes text)) }
+    requires { IsNumberSlot slot.now }
+    ensures { IfOk result (λ text. string_bytes text ≡ result_line slot.now) }
 {
     match slot {
         Slot::Unset => Ok(String::from_str(alloc, "result: ()\n")?),
@@ -54,7 +55,7 @@ fn refused_line(alloc: Global, fault: &SpecFault) -> Result<String, OutOfMemory>
     let number = fault.kind.number();
     let name = fault.kind.name();
     let mut text = format!(in alloc; "refused: {number} {name} at ")?;
-    push_place(&mut text, &fault.place)?;
+    push_place(&mut text, fault.place)?;
     text.push('\n')?;
     Ok(text)
 }
@@ -70,40 +71,9 @@ fn failed_line(
     let number = fault.number();
     let name = fault.name();
     let mut text = format!(in alloc; "fault: {number} {name} in ")?;
-    push_thread(&mut text, thread)?;
+    push_thread(&mut text, *thread)?;
     text.push_str(" at ")?;
-    push_place(&mut text, place)?;
+    push_place(&mut text, *place)?;
     text.push('\n')?;
     Ok(text)
-}
-
-fn push_thread(text: &mut String, thread: &Thread) -> Result<(), OutOfMemory>
-    ensures { OnOk result (string_bytes text.new ≡ string_bytes text.old ++ thread_text thread.now) }
-{
-    match thread {
-        Thread::Main => text.push_str("main")?,
-        Thread::Of(object) => write!(text, "t{object}")?,
-        Thread::Release(object, k) => write!(text, "r{object}.{k}")?,
-        Thread::Clock => text.push_str("clock")?,
-    }
-    Ok(())
-}
-
-fn push_place(text: &mut String, place: &Place) -> Result<(), OutOfMemory>
-    ensures { OnOk result (string_bytes text.new ≡ string_bytes text.old ++ place_text place.now) }
-{
-    let part = part_text(place.part);
-    let line = place.line;
-    let column = place.column;
-    write!(text, "{part} {line}:{column}")?;
-    Ok(())
-}
-
-fn part_text(part: Part) -> &'static str
-    ensures { result.now ≡ part_text part }
-{
-    match part {
-        Part::Spec => "spec",
-        Part::Expr => "expr",
-    }
 }

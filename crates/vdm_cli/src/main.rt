@@ -3,7 +3,6 @@
 
 mod command;
 mod end;
-mod evaluation;
 mod last_line;
 mod meant;
 mod report;

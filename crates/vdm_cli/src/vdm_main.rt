@@ -26,8 +26,8 @@ pub fn vdm_main<S: Source, K: Sink>(
     ensures reading { KeepsReading S.left S.reads source.old source.new }
     ensures texts { KeepsTexts (map string_bytes words.now) (around S.left S.faults source.old source.new) result.end }
     ensures journal { KeepsJournal (map string_bytes words.now) (around S.left S.faults source.old source.new) result.journal result.end }
-    ensures end { KeepsEnd (map string_bytes words.now) (around S.left S.faults source.old source.new) result.journal result.end }
-    ensures output { KeepsOutput (map string_bytes words.now) (around S.left S.faults source.old source.new) result.journal (around K.held K.faults sink.old sink.new) result.end }
+    ensures end { KeepsEnd (map string_bytes words.now) result.log (around S.left S.faults source.old source.new) result.journal result.end }
+    ensures output { KeepsOutput (map string_bytes words.now) result.log (around S.left S.faults source.old source.new) result.journal (around K.held K.faults sink.old sink.new) result.end }
     ensures causes { KeepsCauses (around S.left S.faults source.old source.new) (around K.held K.faults sink.old sink.new) result.end }
 {
     let meant = meant_by(alloc, words, source);
