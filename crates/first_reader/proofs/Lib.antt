@@ -1,11 +1,1 @@
-pub mod Bodies
-pub mod Differing
-pub mod Found
-pub mod Fronts
-pub mod Lexing
-pub mod Naming
-pub mod Numerals
-pub mod ScopeLemmas
 pub mod TextTrees
-pub mod Trees
-pub mod Turns

@@ -12,8 +12,8 @@ use Rattle.vdm_grammar.specs.Reading.{spec_of, expr_of}
 use Rattle.vdm_grammar.specs.Texts.{spec_limit, expr_limit, IsSpecification, IsNoSpecification, HasTree, HasNoTree}
 use Rattle.vdm_grammar.specs.Tokens.{names_behind}
 use Rattle.vdm_grammar.proofs.Texts.{IsSpecification-from_tree, IsNoSpecification-from_tokens, IsNoSpecification-from_unbound, HasTree-from_tree, HasNoTree-from_tokens, HasNoTree-from_unbound}
-use Rattle.first_reader.specs.Lexed.{IsLexed}
-use Rattle.first_reader.specs.declared.no_tree.NoTree.{NoTree}
+use Rattle.first_tokens.specs.Lexed.{IsLexed}
+use Rattle.vdm_grammar.specs.declared.no_tree.NoTree.{NoTree}
 
 -- what a call refuses is handed on as it was
 pub handed_on : {T : Type 0} (result : Result T (Halt NoTree)) (inner outer : Halt NoTree) (fault : NoTree) → result ≡ Err (Of fault) → result ≡ Err outer → outer ≡ inner → (other : Result T (Halt NoTree)) → other ≡ Err inner → other ≡ Err (Of (record {}))

@@ -5,14 +5,14 @@ ghost use Rattle.vdm_kinds.specs.declared.spec_fault.SpecFault.{SpecFault};
 ghost use Rattle.vdm_grammar.specs.Texts.{HasTree, HasNoTree, expr_limit, syntax_fault};
 ghost use Rattle.vdm_tree.specs.View.{view_of};
 ghost use Rattle.vdm_tree.specs.ClassView.{spec_view};
-ghost use Rattle.first_reader.specs.declared.no_tree.NoTree.{NoTree};
+ghost use Rattle.vdm_grammar.specs.declared.no_tree.NoTree.{NoTree};
 
-use crate::call::expression_of;
-use crate::expression_binding::is_bound_in;
-use crate::lexer::lex;
-use crate::no_tree::{NO_TREE, NoTree};
 use crate::refusal::syntax_fault;
+use first_names::is_bound_in;
+use first_tokens::lex;
+use first_trees::expression_of;
 use std::alloc::Global;
+use vdm_grammar::{NO_TREE, NoTree};
 use vdm_kinds::{Halt, Names, Part, SpecFault};
 use vdm_tree::{Expr, Spec};
 
@@ -62,6 +62,3 @@ fn bound_expression(
         Err(NO_TREE)
     }
 }
-
-#[cfg(test)]
-mod tests;

@@ -3,7 +3,7 @@
 ghost use Rattle.std.specs.Prelude.{◌≡◌};
 ghost use Rattle.vdm_grammar.specs.Texts.{syntax_fault};
 
-use crate::lexer::start_of;
+use first_tokens::start_of;
 use vdm_kinds::{Part, SpecFault, SpecKind};
 
 /// A syntax fault where the text begins.

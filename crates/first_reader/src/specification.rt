@@ -5,14 +5,14 @@ ghost use Rattle.vdm_kinds.specs.NameList.{built_in_names};
 ghost use Rattle.vdm_kinds.specs.declared.spec_fault.SpecFault.{SpecFault};
 ghost use Rattle.vdm_grammar.specs.Texts.{IsSpecification, IsNoSpecification, spec_limit, syntax_fault};
 ghost use Rattle.vdm_tree.specs.ClassView.{spec_view};
-ghost use Rattle.first_reader.specs.declared.no_tree.NoTree.{NoTree};
+ghost use Rattle.vdm_grammar.specs.declared.no_tree.NoTree.{NoTree};
 
-use crate::binding::is_bound;
-use crate::class::specification_of;
-use crate::lexer::lex;
-use crate::no_tree::{NO_TREE, NoTree};
 use crate::refusal::syntax_fault;
+use first_names::is_bound;
+use first_tokens::lex;
+use first_trees::specification_of;
 use std::alloc::Global;
+use vdm_grammar::{NO_TREE, NoTree};
 use vdm_kinds::{Halt, Names, Part, SpecFault};
 use vdm_tree::Spec;
 
@@ -57,6 +57,3 @@ fn bound_specification(alloc: Global, text: &[u8], names: &mut Names) -> Result<
         Err(NO_TREE)
     }
 }
-
-#[cfg(test)]
-mod tests;

@@ -7,8 +7,6 @@ mod member;
 mod place;
 mod report;
 mod slots;
-#[cfg(test)]
-mod tests;
 mod thread;
 mod writes;
 

@@ -1,4 +1,3 @@
-mod ClassNames
 mod Staying
 mod Moves
 mod Next

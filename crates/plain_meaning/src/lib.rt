@@ -2,20 +2,11 @@
 #![tactic(auto)]
 
 mod asked;
-mod classes;
-mod counts;
 mod given;
-mod layout;
-mod legal;
-mod order;
 mod run;
 mod standing;
-mod state;
-#[cfg(test)]
-mod tests;
-mod writes;
 
-pub use order::is_in_order;
+pub use plain_legal::is_in_order;
 pub use plain_store::{Finish, finish_of};
 pub use run::is_run;
 pub use standing::{Standing, next_question};

@@ -10,7 +10,7 @@ ghost use Rattle.vdm_tree.specs.View.{view_of};
 
 use crate::asked::is_asked_for;
 use crate::given::answer_of;
-use crate::legal::is_legal_at_object;
+use plain_legal::is_legal_at_object;
 use run_journal::{Entry, EntryList, every_entry_gives_back, made_where_fits};
 use std::alloc::Global;
 use stmt_exec::{Machine, Table};

@@ -1,4 +1,4 @@
-mod Counts
+pub mod Counts
 mod Endings
 mod Entries
 mod LastWrites

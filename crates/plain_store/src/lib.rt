@@ -6,10 +6,9 @@ mod layout;
 mod ran;
 mod state;
 mod store;
-#[cfg(test)]
-mod tests;
 mod writes;
 
 pub use finish::{Finish, finish_of};
 pub use ran::{Ran, run};
+pub use state::state_of;
 pub use store::Store;

@@ -15,7 +15,7 @@ use vdm_values::Slot;
 
 /// A copy of what the variable of the object holds behind the entries, where the object has the variable: what was written
 /// last, or else what the object was made with.
-pub(crate) fn state_of(
+pub fn state_of(
     alloc: Global,
     spec: &Spec,
     entries: &EntryList,

@@ -56,6 +56,13 @@ impl Store {
         }
     }
 
+    /// The entries so far, in order.
+    pub fn entries(&self) -> &EntryList
+        ensures { result.now ≡ journal self.now }
+    {
+        &self.entries
+    }
+
     /// The entries, in order.
     pub fn into_journal(self) -> EntryList
         ensures { result ≡ journal self }
@@ -145,6 +152,3 @@ impl Store {
         Ok(())
     }
 }
-
-#[cfg(test)]
-mod tests;

@@ -11,8 +11,6 @@ mod host_answer;
 mod laws;
 mod question;
 mod same;
-#[cfg(test)]
-mod tests;
 mod thread;
 mod write;
 mod write_list;

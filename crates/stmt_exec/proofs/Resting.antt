@@ -15,16 +15,16 @@ use Rattle.vdm_meaning.specs.Faults.{Fault, fault_at}
 use Rattle.vdm_meaning.specs.Tasks.{Task, Flow, Code, spent}
 use Rattle.vdm_meaning.specs.TaskPlans.{plan_of}
 use Rattle.vdm_meaning.specs.Main.{asks, over, standing_of}
-use Rattle.stmt_exec.specs.declared.frame.Frame.{Frame}
+use Rattle.step_data.specs.declared.frame.Frame.{Frame}
 use Rattle.stmt_exec.specs.declared.machine.Rest.{Rest}
 use Rattle.stmt_exec.specs.declared.machine.Rest.TheVariants.{Asks, Fails, Over, Spent}
-use Rattle.stmt_exec.specs.declared.asking.Asking.{Asking}
+use Rattle.step_data.specs.declared.asking.Asking.{Asking}
 use Rattle.stmt_exec.specs.declared.machine.Machine.{Machine}
-use Rattle.stmt_exec.specs.Tables.{table_spec}
-use Rattle.stmt_exec.specs.declared.step.Step.{Step}
-use Rattle.stmt_exec.specs.declared.task.Task.{Task as Entered}
-use Rattle.stmt_exec.specs.Parts.{task_of}
-use Rattle.stmt_exec.specs.Steps.{then_of, question_of, answered_of, code_of}
+use Rattle.step_data.specs.Tables.{table_spec}
+use Rattle.step_data.specs.declared.step.Step.{Step}
+use Rattle.step_data.specs.declared.task.Task.{Task as Entered}
+use Rattle.step_data.specs.Parts.{task_of}
+use Rattle.step_data.specs.Steps.{then_of, question_of, answered_of, code_of}
 use Rattle.stmt_exec.specs.Standing.{comes_to, unwind, stands, rest_at, rest}
 
 module _ (spec : SpecTree) where

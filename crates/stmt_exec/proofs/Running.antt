@@ -5,18 +5,18 @@ use Rattle.run_journal.specs.declared.answer.Answer.{Answer}
 use Rattle.abstract_syntax.specs.Classes.{SpecTree}
 use Rattle.plans.specs.Plans.{finish}
 use Rattle.vdm_meaning.specs.Main.{over}
-use Rattle.stmt_exec.specs.declared.asking.Asking.{Asking}
-use Rattle.stmt_exec.specs.declared.asking.Asking.TheVariants.{IoClass, TextClass, Request, Activation, Finish, Read, Write, New, End}
-use Rattle.stmt_exec.specs.declared.flow.Flow.{Flow}
-use Rattle.stmt_exec.specs.declared.frame.Frame.{Frame}
+use Rattle.step_data.specs.declared.asking.Asking.{Asking}
+use Rattle.step_data.specs.declared.asking.Asking.TheVariants.{IoClass, TextClass, Request, Activation, Finish, Read, Write, New, End}
+use Rattle.step_data.specs.declared.flow.Flow.{Flow}
+use Rattle.step_data.specs.declared.frame.Frame.{Frame}
 use Rattle.stmt_exec.specs.declared.machine.Machine.{Machine}
-use Rattle.stmt_exec.specs.declared.step.Step.{Step}
-use Rattle.stmt_exec.specs.declared.step.Step.TheVariants.{Finish as Done, Fail, Ask, Part}
-use Rattle.stmt_exec.specs.declared.table.Table.{Table}
-use Rattle.stmt_exec.specs.declared.task.Task.{Task}
-use Rattle.stmt_exec.specs.Tables.{table_spec}
-use Rattle.stmt_exec.specs.Parts.{flow_of}
-use Rattle.stmt_exec.specs.Steps.{then_of, code_of, weight, height}
+use Rattle.step_data.specs.declared.step.Step.{Step}
+use Rattle.step_data.specs.declared.step.Step.TheVariants.{Finish as Done, Fail, Ask, Part}
+use Rattle.step_data.specs.declared.table.Table.{Table}
+use Rattle.step_data.specs.declared.task.Task.{Task}
+use Rattle.step_data.specs.Tables.{table_spec}
+use Rattle.step_data.specs.Parts.{flow_of}
+use Rattle.step_data.specs.Steps.{then_of, code_of, weight, height}
 use Rattle.stmt_exec.specs.Standing.{stands, stands_with, load}
 use Rattle.stmt_exec.proofs.Resting.{finish-goes_on}
 

@@ -1,5 +1,2 @@
-pub mod Definitions
-pub mod Tables
-pub mod Parts
-pub mod Steps
+pub use Rattle.step_data.specs.Tables
 pub mod Standing

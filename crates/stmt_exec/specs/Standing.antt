@@ -9,13 +9,13 @@ use Rattle.vdm_meaning.specs.Faults.{Fault, fault_at}
 use Rattle.vdm_meaning.specs.Tasks.{Flow, Code, spent}
 use Rattle.vdm_meaning.specs.TaskPlans.{plan_of}
 use Rattle.vdm_meaning.specs.Main.{Standing, asks, over, standing_of}
-use Rattle.stmt_exec.specs.declared.frame.Frame.{Frame}
+use Rattle.step_data.specs.declared.frame.Frame.{Frame}
 use Rattle.stmt_exec.specs.declared.machine.Machine.{Machine}
 use Rattle.stmt_exec.specs.declared.machine.Rest.{Rest}
 use Rattle.stmt_exec.specs.declared.machine.Rest.TheVariants.{Asks, Fails, Over, Spent}
-use Rattle.stmt_exec.specs.declared.step.Step.{Step}
-use Rattle.stmt_exec.specs.Tables.{table_spec}
-use Rattle.stmt_exec.specs.Steps.{then_of, question_of, answered_of, code_of, weight}
+use Rattle.step_data.specs.declared.step.Step.{Step}
+use Rattle.step_data.specs.Tables.{table_spec}
+use Rattle.step_data.specs.Steps.{then_of, question_of, answered_of, code_of, weight}
 
 -- what a plan comes to under a specification
 abbrev pub comes_to : SpecTree → Code → List Answer → ℕ → Outcome Flow Question Answer Fault

@@ -2,23 +2,10 @@
 #![tactic(auto)]
 
 mod asking;
-mod call;
-mod definitions;
-mod env;
-mod expression;
-mod flow;
 mod frame;
 mod machine;
-mod members;
-mod object;
-mod operators;
-mod statement;
-mod step;
-mod table;
+mod main_code;
 mod task;
-#[cfg(test)]
-mod tests;
-mod types;
 
 pub use machine::Machine;
-pub use table::Table;
+pub use step_data::Table;

@@ -4,20 +4,18 @@ ghost use Rattle.std.specs.Prelude.{◌≡◌, ◌≢◌, ◌<◌, ◌≤◌, �
 ghost use Rattle.run_journal.specs.declared.answer.Answer.{Answer as AnswerView};
 ghost use Rattle.vdm_meaning.specs.Main.{asks, over as is_over, main_code};
 ghost use Rattle.vdm_tree.specs.View.{view_of};
-ghost use Rattle.stmt_exec.specs.Tables.{table_spec};
-ghost use Rattle.stmt_exec.specs.Steps.{busy, height};
+ghost use Rattle.step_data.specs.Tables.{table_spec};
+ghost use Rattle.step_data.specs.Steps.{busy, height};
 ghost use Rattle.stmt_exec.specs.Standing.{rest, rest_at, rest_weight, rank, load, stands_with, IsSpent};
 
-use crate::asking::Asking;
-use crate::flow::Flow;
-use crate::frame::Frame;
-use crate::step::Step;
-use crate::table::Table;
-use crate::task::Task;
+use crate::asking::{answered_of, question_of};
+use crate::frame::then_of;
+use crate::task::plan_of;
 use plans::take_unit;
 use run_journal::{Answer, Question};
 use std::alloc::Global;
 use std::mem;
+use step_data::{Asking, Frame, Step, Table, Task};
 use vdm_kinds::{OutOfMemory, Place, RunFault};
 use vdm_tree::Expr;
 use vdm_values::Slot;
@@ -109,7 +107,7 @@ impl<'t> Machine<'t> {
         ensures spent { IsSpent self.now → IsErr result }
     {
         match &self.rest {
-            Rest::Asks(asking) => asking.question(alloc),
+            Rest::Asks(asking) => question_of(alloc, asking),
             Rest::Fails(fault, place) => Ok(Question::Fail {
                 fault: *fault,
                 exit: Slot::Unset,
@@ -133,7 +131,7 @@ impl<'t> Machine<'t> {
         ensures spent { rest.entry ≡ Rest.Spent → IsErr result }
     {
         match rest {
-            Rest::Asks(asking) => self.run(alloc, asking.answered(answer)),
+            Rest::Asks(asking) => self.run(alloc, answered_of(asking, answer)),
             Rest::Fails(_, _) => Ok(Rest::Over),
             Rest::Over | Rest::Spent => Err(OutOfMemory),
         }
@@ -150,7 +148,7 @@ impl<'t> Machine<'t> {
         'steps: loop {
             step = match step {
                 Step::Finish(flow) => match self.frames.pop() {
-                    Some(frame) => frame.then(self.table, flow)?,
+                    Some(frame) => then_of(self.table, frame, flow)?,
                     None => return Ok(Rest::Over),
                 },
                 Step::Part(task, frame) => self.enter(alloc, task, frame)?,
@@ -183,7 +181,7 @@ impl<'t> Machine<'t> {
             Some(left) => {
                 self.fuel = left;
                 self.frames.push(frame)?;
-                task.step(alloc, self.table)
+                plan_of(alloc, self.table, task)
             }
             None => Ok(Step::Fail(RunFault::StepLimit, task.place())),
         }

@@ -2,8 +2,6 @@
 #![tactic(auto)]
 
 mod slot;
-#[cfg(test)]
-mod tests;
 mod value;
 
 pub use slot::{push_slot, slot_text};

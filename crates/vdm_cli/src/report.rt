@@ -1,5 +1,7 @@
 // What a call of the program gives.
 
+ghost use Rattle.std.specs.Prelude.{◌≡◌};
+
 use crate::end::End;
 use run_journal::EntryList;
 
@@ -13,4 +15,13 @@ pub struct Report {
     pub journal: EntryList,
     /// Whether the words asked for the log.
     pub log: bool,
+}
+
+impl Report {
+    /// The exit status alone.
+    pub fn into_status(self) -> u8
+        ensures { result ≡ self.status }
+    {
+        self.status
+    }
 }

@@ -4,6 +4,7 @@
 
 mod laws;
 mod mark;
+mod no_tree;
 mod token;
 
 pub use laws::{
@@ -11,4 +12,5 @@ pub use laws::{
     specification_is_read, worked_expressions, worked_texts,
 };
 pub use mark::Mark;
+pub use no_tree::{NO_TREE, NoTree};
 pub use token::{Token, TokenKind};

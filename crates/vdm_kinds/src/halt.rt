@@ -56,22 +56,3 @@ impl<F, T: Drop> From<AllocFailed<T>> for Halt<F> {
         Halt::OutOfMemory
     }
 }
-
-#[cfg(test)]
-mod tests {
-    use super::*;
-
-    fn refused<T>(halt: T) -> Halt<u8>
-    where
-        Halt<u8>: From<T>,
-    {
-        Halt::from(halt)
-    }
-
-    #[test]
-    fn want_of_memory_is_told_as_such(rt: HostRuntime) {
-        assert_eq!(rt; refused(OutOfMemory), Halt::OutOfMemory);
-        assert_eq!(rt; refused(AllocError), Halt::OutOfMemory);
-        assert_eq!(rt; OutOfMemory::from(AllocError), OutOfMemory);
-    }
-}

@@ -74,32 +74,3 @@ impl Names {
         self.texts.len()
     }
 }
-
-#[cfg(test)]
-mod tests {
-    use super::*;
-
-    #[test]
-    fn built_in_names_come_first(rt: HostRuntime) -> Result<(), OutOfMemory> {
-        let names = Names::new(rt.alloc())?;
-        assert_eq!(rt; names.text(Name::IO), Some("IO"));
-        assert_eq!(rt; names.text(Name(1)), Some("print"));
-        assert_eq!(rt; names.text(Name(2)), Some("println"));
-        assert_eq!(rt; names.text(Name(3)), None);
-        assert_eq!(rt; names.len(), 3);
-        Ok(())
-    }
-
-    #[test]
-    fn a_text_keeps_its_name(rt: HostRuntime) -> Result<(), OutOfMemory> {
-        let mut names = Names::new(rt.alloc())?;
-        assert_eq!(rt; names.name("print")?, Name(1));
-        assert_eq!(rt; names.name("Main")?, Name(3));
-        assert_eq!(rt; names.name("x")?, Name(4));
-        assert_eq!(rt; names.name("Main")?, Name(3));
-        assert_eq!(rt; names.text(Name(3)), Some("Main"));
-        assert_eq!(rt; names.text(Name(5)), None);
-        assert_eq!(rt; names.len(), 5);
-        Ok(())
-    }
-}

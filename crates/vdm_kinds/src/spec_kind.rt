@@ -69,33 +69,3 @@ impl SpecKind {
         }
     }
 }
-
-#[cfg(test)]
-mod tests {
-    use super::*;
-
-    #[test]
-    fn numbers_and_names(rt: HostRuntime) {
-        let rows: [(SpecKind, u32, &[u8]); 15] = [
-            (SpecKind::LexFault, 1, b"LexFault"),
-            (SpecKind::SyntaxFault, 2, b"SyntaxFault"),
-            (SpecKind::TooDeep, 3, b"TooDeep"),
-            (SpecKind::TooLong, 4, b"TooLong"),
-            (SpecKind::LeftOut, 5, b"LeftOut"),
-            (SpecKind::UnknownName, 6, b"UnknownName"),
-            (SpecKind::Duplicate, 7, b"Duplicate"),
-            (SpecKind::Cycle, 8, b"Cycle"),
-            (SpecKind::Ambiguous, 9, b"Ambiguous"),
-            (SpecKind::NotVisible, 10, b"NotVisible"),
-            (SpecKind::WrongArity, 11, b"WrongArity"),
-            (SpecKind::NoCommonValue, 12, b"NoCommonValue"),
-            (SpecKind::GuardReach, 13, b"GuardReach"),
-            (SpecKind::InitReach, 14, b"InitReach"),
-            (SpecKind::NotSynchronised, 15, b"NotSynchronised"),
-        ];
-        for (kind, number, name) in rows {
-            assert_eq!(rt; kind.number(), number);
-            assert_eq!(rt; kind.name().as_bytes(), name, "at {number}");
-        }
-    }
-}

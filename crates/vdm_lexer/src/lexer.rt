@@ -153,6 +153,3 @@ fn lexeme_at(kind: LexKind, spot: Spot, bytes: usize) -> Lexeme
         place: spot.place,
     }
 }
-
-#[cfg(test)]
-mod tests;

@@ -25,6 +25,3 @@ pub use std_source::StdSource;
 pub use sure_sink::SureSink;
 pub use sure_source::SureSource;
 pub use writing::write_whole;
-
-#[cfg(test)]
-mod tests;

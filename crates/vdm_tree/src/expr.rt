@@ -88,6 +88,3 @@ impl Expr {
         Ok(Expr::Select(Box::new(alloc, target)?, name, name_place, place))
     }
 }
-
-#[cfg(test)]
-mod tests;

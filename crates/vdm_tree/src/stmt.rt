@@ -58,6 +58,3 @@ impl Stmt {
         Ok(Stmt::Return(Some(Box::new(alloc, value)?), place))
     }
 }
-
-#[cfg(test)]
-mod tests;

@@ -1,4 +1,3 @@
-pub mod Insertion
 pub mod Lists
 pub mod Neighbours
 pub mod Parts

@@ -4,16 +4,10 @@
 mod map;
 mod ordering;
 mod pair_list;
-#[cfg(test)]
-mod plain;
 mod set;
-#[cfg(test)]
-mod set_tests;
 mod size;
 mod slot;
 mod slot_list;
-#[cfg(test)]
-mod tests;
 mod value;
 mod value_list;
 

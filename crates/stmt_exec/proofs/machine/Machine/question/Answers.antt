@@ -13,4 +13,4 @@ pub returns-in-Fails-clause-asks : goal.returns-in-Fails-clause-asks
 returns-in-Fails-clause-asks c = at_rest-fails c.args.self.now c.in-Fails.fault c.in-Fails.place c.in-Fails.is
 
 pub returns-in-Asks-clause-asks : goal.returns-in-Asks-clause-asks
-returns-in-Asks-clause-asks c = asked c.question.result _ _ (at_rest-asks c.args.self.now c.in-Asks.asking c.in-Asks.is) c.question.ensures
+returns-in-Asks-clause-asks c = asked c.question_of.result _ _ (at_rest-asks c.args.self.now c.in-Asks.asking c.in-Asks.is) c.question_of.ensures

@@ -1,7 +1,7 @@
 use Rattle.std.proofs.Common.{◌-◌, ◌++◌, [], take, ap, sym, ◌∙◌}
-use Rattle.stmt_exec.specs.declared.step.Step.TheVariants.{Fail, Ask}
-use Rattle.stmt_exec.specs.Tables.{table_spec}
-use Rattle.stmt_exec.specs.Steps.{height}
+use Rattle.step_data.specs.declared.step.Step.TheVariants.{Fail, Ask}
+use Rattle.step_data.specs.Tables.{table_spec}
+use Rattle.step_data.specs.Steps.{height}
 use Rattle.stmt_exec.specs.Standing.{stands_with, load}
 use Rattle.stmt_exec.proofs.Running.{stands-step, stands-end, popped, popped-low, entered-low}
 use Rattle.stmt_exec.proofs.machine.Machine.run.Goals as goal

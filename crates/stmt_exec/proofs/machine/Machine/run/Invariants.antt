@@ -1,6 +1,6 @@
 use Rattle.std.proofs.Common.{◌≡◌, ◌≤◌, List}
 use Rattle.run_journal.specs.declared.answer.Answer.{Answer}
-use Rattle.stmt_exec.specs.Steps.{busy, height}
+use Rattle.step_data.specs.Steps.{busy, height}
 use Rattle.stmt_exec.specs.Standing.{stands_with, load}
 use Rattle.stmt_exec.proofs.machine.Machine.run.Given as goal
 

@@ -1,0 +1,117 @@
+// What each node of an expression does.
+
+ghost use Rattle.std.specs.Prelude.{◌≡◌, ◌≤◌, IfOk, option_map};
+ghost use Rattle.std.specs.Borrow.{Bor};
+ghost use Rattle.abstract_syntax.specs.Classes.{SpecTree};
+ghost use Rattle.vdm_meaning.specs.Expressions.{expr_plan, right_operand, operator_on, read_found, read_of, read_value};
+ghost use Rattle.vdm_tree.specs.View.{view_of};
+ghost use Rattle.vdm_tree.specs.ClassView.{variable_view};
+ghost use Rattle.vdm_tree.specs.declared.class_def.VarDef.{VarDef};
+ghost use Rattle.step_data.specs.Tables.{class_of, table_spec};
+ghost use Rattle.step_data.specs.Parts.{env_of};
+ghost use Rattle.step_data.specs.Steps.{code_of, height};
+
+use crate::call::application;
+use crate::object::new_object;
+use crate::operators::applied;
+use run_journal::Answer;
+use std::alloc::Global;
+use step_data::{Asking, Env, Frame, Members, Step, Table, Task, Use, Wanted};
+use vdm_kinds::{Name, Operator, OutOfMemory, Place, RunFault};
+use vdm_tree::{Expr, VarDef};
+use vdm_values::{Node, Slot, Value};
+
+/// What a node of an expression does.
+pub fn expression<'t>(
+    alloc: Global,
+    table: &'t Table<'t>,
+    env: Env<'t>,
+    tree: &'t Expr,
+) -> Result<Step<'t>, OutOfMemory>
+    ensures { IfOk result (λ s. code_of (table_spec table.now) s ≡ expr_plan (table_spec table.now) (env_of env.entry) (view_of tree.now)) }
+{
+    match tree {
+        Expr::Whole(number, _) => Ok(Step::value(Value::new(Node::Int(*number)))),
+        Expr::Name(name, place) => Ok(read_of(env, *name, *place)),
+        Expr::Infix(left, operator, right, place) => Ok(Step::Part(
+            Task::Expr(env, left),
+            Frame::With(Use::RightOperand(env, right, *operator), *place),
+        )),
+        Expr::Apply(head, arguments, place) => {
+            Ok(application(env, head, arguments.as_slice(), *place, Wanted::Value))
+        }
+        Expr::New(class, _, arguments, place) => {
+            new_object(
+                alloc,
+                table.class_named(*class),
+                arguments.as_slice(),
+                *place,
+            )
+        }
+        Expr::Select(_, _, _, place) => Ok(Step::Fail(RunFault::Undefined, *place)),
+    }
+}
+
+/// The right operand after the left one, then the operator.
+pub fn right_operand<'t>(
+    env: Env<'t>,
+    right: &'t Expr,
+    operator: Operator,
+    place: Place,
+    left: Value,
+) -> Step<'t>
+    ensures { (spec : SpecTree) → code_of spec result ≡ right_operand (env_of env.entry) (view_of right.now) operator place left }
+{
+    Step::Part(
+        Task::Expr(env, right),
+        Frame::With(Use::Operator(operator, left), place),
+    )
+}
+
+/// The operator on both operands.
+pub fn operator_on<'t>(operator: Operator, place: Place, left: Value, right: Value) -> Step<'t>
+    ensures { (spec : SpecTree) → code_of spec result ≡ operator_on operator place left right }
+{
+    match applied(operator, &left, &right) {
+        Ok(value) => Step::value(value),
+        Err(fault) => Step::Fail(fault, place),
+    }
+}
+
+/// A name that stands alone: a variable of the object, which is read.
+fn read_of<'t>(env: Env<'t>, name: Name, place: Place) -> Step<'t>
+    ensures { (spec : SpecTree) → code_of spec result ≡ read_of (env_of env.entry) name place }
+{
+    match env {
+        Env::Outside => Step::Fail(RunFault::Undefined, place),
+        Env::Inside(me, members) => read_found(me, members, members.variable(name), place),
+    }
+}
+
+fn read_found<'t>(
+    me: u32,
+    members: &'t Members<'t>,
+    variable: Option<&'t VarDef>,
+    place: Place,
+) -> Step<'t>
+    ensures { (spec : SpecTree) → code_of spec result ≡ read_found me (class_of members.now) (option_map (λ (v : Bor VarDef). variable_view v.now) variable.entry) place }
+{
+    match variable {
+        Some(variable) => {
+            let var = members.variable_ref(variable);
+            Step::Ask(Asking::Read(me, var, place))
+        }
+        None => Step::Fail(RunFault::Undefined, place),
+    }
+}
+
+/// What was read; an unset variable has no value.
+pub fn read_value<'t>(place: Place, answer: Answer) -> Step<'t>
+    ensures same { (spec : SpecTree) → code_of spec result ≡ read_value place answer }
+    ensures falls { height result ≤ 1 }
+{
+    match answer {
+        Answer::Slot(Slot::Held(value)) => Step::value(value),
+        _ => Step::Fail(RunFault::Undefined, place),
+    }
+}

@@ -1,0 +1,4 @@
+pub mod Bodies
+pub mod Differing
+pub mod Found
+pub mod ScopeLemmas

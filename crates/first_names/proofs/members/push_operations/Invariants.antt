@@ -1,0 +1,10 @@
+use Rattle.std.proofs.Common.{◌≡◌, ◌++◌, map, drop}
+use Rattle.vdm_tree.specs.ClassView.{operation_view}
+use Rattle.first_names.specs.Scopes.{operation_numbers}
+use Rattle.first_names.proofs.members.push_operations.Given as goal
+
+-- the names so far, and those of the rest
+abbrev pub invariant-loop-operation : goal.invariant-loop-operation
+invariant-loop-operation l =
+    l.names.items ++ operation_numbers (map operation_view (drop l.operation-index l.operation-items))
+    ≡ l.initial.names.items ++ operation_numbers (map operation_view l.operation-items)

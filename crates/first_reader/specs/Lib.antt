@@ -1,4 +1,0 @@
-pub mod Lexed
-pub mod Pieces
-pub mod Scopes
-pub mod Views

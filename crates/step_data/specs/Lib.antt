@@ -1,0 +1,4 @@
+pub mod Definitions
+pub mod Tables
+pub mod Parts
+pub mod Steps

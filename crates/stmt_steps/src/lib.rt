@@ -1,0 +1,4 @@
+//! What statements do.
+#![tactic(auto)]
+
+pub mod statement;
