@@ -51,12 +51,15 @@ has a line feed. Each file of the folder may be missing:
 Requests, comments and empty lines are as in a table, and an answer is one line. The row's name is TOPIC:LINE, with the
 number of the line of its request. `let NAME = TEXT` in column 1 defines a text for the lines below it. In requests and
 in such texts each `${NAME}` is first replaced by the text of that name, and then each `%{N TEXT%}` is written out as in
-words, where TEXT has no other in it; in answers `${NAME}` alone is. Every other % is left to the driver.
+words, where TEXT has no other in it; in answers `${NAME}` alone is. Then `driver.py`, which says what requests there
+are, puts the request into words for the driver, and what the driver answers back into the notation of rows.
 """
 import re
 import shlex
 from contextlib import contextmanager
 from typing import NamedTuple
+
+from driver import BadRequest, words_for
 
 FILES = {"args", "word", "stdin", "stdout", "status", "setup"}
 STATUSES = {"result:": 0, "refused:": 1, "usage:": 2, "fault:": 3, "read": 6}
@@ -172,7 +175,7 @@ class TableRow(Case):
 
 
 class DriverRow:
-    """What the driver is asked, and the one line that it must answer."""
+    """The words that the driver is given, and the one line that it must answer, in the notation of rows."""
 
     kind = "rows of the driver"
 
@@ -180,7 +183,7 @@ class DriverRow:
         self.path, self.name, self.topic = path, f"{path.stem}:{entry.line}", path.stem
         if len(entry.answer) != 1:
             raise BadCase(f"this request has {len(entry.answer)} lines of answer, and one is wanted")
-        self.request = expanded(entry.text, texts).encode()
+        self.request = asked(expanded(entry.text, texts)).encode()
         self.answer = named(entry.answer[0], texts).encode()
 
     @classmethod
@@ -316,6 +319,13 @@ def define(entry, texts):
     if not found or entry.answer:
         raise BadCase("a text is defined by 'let NAME = TEXT', without an answer")
     texts[found[1]] = expanded(found[2], texts)
+
+
+def asked(request):
+    try:
+        return words_for(request)
+    except BadRequest as error:
+        raise BadCase(f"the driver cannot be asked this: {error}") from None
 
 
 def expanded(text, texts):

@@ -11,14 +11,13 @@ ghost use Rattle.vdm_kinds.specs.declared.place.Place.{Place};
 ghost use Rattle.vdm_tree.specs.StmtView.{type_view};
 ghost use Rattle.vdm_tree.specs.ClassView.{operation_view};
 ghost use Rattle.vdm_tree.specs.declared.class_def.OpDef.{OpDef};
-ghost use Rattle.step_data.specs.Tables.{class_of, table_spec};
+ghost use Rattle.class_table.specs.Tables.{class_of, table_spec};
 ghost use Rattle.step_data.specs.Parts.{wanted_of, env_of, flow_of, call_class, call_operation};
 ghost use Rattle.step_data.specs.Steps.{code_of, height};
 
+use class_table::{Members, Table};
 use run_journal::Answer;
-use step_data::{
-    Asking, Call, Env, Flow, Frame, Members, Step, Table, Task, Use, Wanted, expr_place, fits,
-};
+use step_data::{Asking, Call, Env, Flow, Frame, Step, Task, Use, Wanted, expr_place, fits};
 use vdm_kinds::{Name, Place, RunFault};
 use vdm_tree::{Expr, OpDef, TypeExpr};
 use vdm_values::{Node, Slot, Value};

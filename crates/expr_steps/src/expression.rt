@@ -7,16 +7,17 @@ ghost use Rattle.vdm_meaning.specs.Expressions.{expr_plan, right_operand, operat
 ghost use Rattle.vdm_tree.specs.View.{view_of};
 ghost use Rattle.vdm_tree.specs.ClassView.{variable_view};
 ghost use Rattle.vdm_tree.specs.declared.class_def.VarDef.{VarDef};
-ghost use Rattle.step_data.specs.Tables.{class_of, table_spec};
+ghost use Rattle.class_table.specs.Tables.{class_of, table_spec};
 ghost use Rattle.step_data.specs.Parts.{env_of};
 ghost use Rattle.step_data.specs.Steps.{code_of, height};
 
 use crate::call::application;
 use crate::object::new_object;
 use crate::operators::applied;
+use class_table::{Members, Table};
 use run_journal::Answer;
 use std::alloc::Global;
-use step_data::{Asking, Env, Frame, Members, Step, Table, Task, Use, Wanted};
+use step_data::{Asking, Env, Frame, Step, Task, Use, Wanted, variable_ref};
 use vdm_kinds::{Name, Operator, OutOfMemory, Place, RunFault};
 use vdm_tree::{Expr, VarDef};
 use vdm_values::{Node, Slot, Value};
@@ -98,7 +99,7 @@ fn read_found<'t>(
 {
     match variable {
         Some(variable) => {
-            let var = members.variable_ref(variable);
+            let var = variable_ref(members, variable);
             Step::Ask(Asking::Read(me, var, place))
         }
         None => Step::Fail(RunFault::Undefined, place),

@@ -5,13 +5,14 @@ ghost use Rattle.std.specs.Borrow.{Bor};
 ghost use Rattle.abstract_syntax.specs.Classes.{SpecTree};
 ghost use Rattle.vdm_meaning.specs.Calls.{new_of, initialise, with_slot, make_object, created};
 ghost use Rattle.vdm_tree.specs.View.{expr_trees, views_of};
-ghost use Rattle.step_data.specs.declared.members.Members.{Members};
-ghost use Rattle.step_data.specs.Tables.{class_of, variables_from};
+ghost use Rattle.class_table.specs.declared.members.Members.{Members};
+ghost use Rattle.class_table.specs.Tables.{class_of, variables_from};
 ghost use Rattle.step_data.specs.Steps.{code_of, height};
 
+use class_table::Members;
 use run_journal::Answer;
 use std::alloc::Global;
-use step_data::{Asking, Env, Frame, Members, Step, Task, Use, all_fit};
+use step_data::{Asking, Env, Frame, Step, Task, Use, all_fit};
 use vdm_kinds::{Name, OutOfMemory, Place, RunFault};
 use vdm_tree::Expr;
 use vdm_values::{Node, Slot, SlotList, Value};

@@ -13,7 +13,8 @@ use first_tokens::lex;
 use first_trees::expression_of;
 use std::alloc::Global;
 use vdm_grammar::{NO_TREE, NoTree};
-use vdm_kinds::{Halt, Names, Part, SpecFault};
+use vdm_kinds::{Halt, Part, SpecFault};
+use vdm_names::Names;
 use vdm_tree::{Expr, Spec};
 
 /// The most bytes of an expression, 64 KiB.

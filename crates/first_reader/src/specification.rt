@@ -13,7 +13,8 @@ use first_tokens::lex;
 use first_trees::specification_of;
 use std::alloc::Global;
 use vdm_grammar::{NO_TREE, NoTree};
-use vdm_kinds::{Halt, Names, Part, SpecFault};
+use vdm_kinds::{Halt, Part, SpecFault};
+use vdm_names::Names;
 use vdm_tree::Spec;
 
 /// The most bytes of a specification, 4 MiB.

@@ -7,7 +7,7 @@ use Rattle.std.proofs.lemmas.List.{map-append, drop_more, take_rest}
 use Rattle.std.proofs.lemmas.List.Folds.{list_any-append}
 use Rattle.vdm_kinds.specs.declared.place.Place.{Place}
 use Rattle.vdm_kinds.specs.NameList.{with_name, with_names}
-use Rattle.vdm_kinds.proofs.NameLemmas.{with_name-among, with_names-behind, number_in-with_names}
+use Rattle.vdm_names.proofs.NameLemmas.{with_name-among, with_names-behind, number_in-with_names}
 use Rattle.vdm_grammar.specs.declared.token.Token.{Token}
 use Rattle.vdm_grammar.specs.declared.token.TokenKind.{TokenKind}
 use Rattle.vdm_grammar.specs.declared.token.TokenKind.TheVariants as kind

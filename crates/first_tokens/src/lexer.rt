@@ -15,7 +15,8 @@ use crate::front::front_of;
 use crate::word::Kind;
 use std::alloc::Global;
 use vdm_grammar::{NoTree, Token, TokenKind};
-use vdm_kinds::{Halt, Name, Names, OutOfMemory, Part, Place};
+use vdm_kinds::{Halt, Name, OutOfMemory, Part, Place};
+use vdm_names::Names;
 
 /// The tokens of a text, whose identifiers are named in text order. A text with anything else in it is refused; the
 /// names may then be more.

@@ -15,7 +15,8 @@ use crate::writes::push_writes;
 use run_journal::{Deed, WriteList};
 use std::fmt::Write;
 use value_text::push_slot;
-use vdm_kinds::{Name, Names, OpRef, OutOfMemory, Place, RunFault, VarRef};
+use vdm_kinds::{Name, OpRef, OutOfMemory, Place, RunFault, VarRef};
+use vdm_names::Names;
 use vdm_values::{Slot, SlotList};
 
 /// Appends the text of a deed. A refusal may leave a part of it there.

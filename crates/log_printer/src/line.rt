@@ -9,7 +9,8 @@ use crate::thread::push_thread;
 use run_journal::Entry;
 use std::alloc::Global;
 use std::fmt::Write;
-use vdm_kinds::{Names, OutOfMemory};
+use vdm_kinds::OutOfMemory;
+use vdm_names::Names;
 
 /// Appends the line of an entry, the k-th. A refusal leaves `out` as before.
 pub fn log_line(

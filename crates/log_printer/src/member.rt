@@ -5,7 +5,8 @@ ghost use Rattle.std.specs.String.{string_bytes};
 ghost use Rattle.report_texts.specs.Log.{name_text, operation_text, variable_text};
 
 use std::fmt::Write;
-use vdm_kinds::{Name, Names, OpRef, OutOfMemory, VarRef};
+use vdm_kinds::{Name, OpRef, OutOfMemory, VarRef};
+use vdm_names::Names;
 
 /// The text of a name; a number past the list has the empty text.
 pub(crate) fn name_text(names: &Names, name: Name) -> &str

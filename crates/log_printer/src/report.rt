@@ -8,7 +8,8 @@ ghost use Rattle.report_texts.specs.Output.{output};
 use crate::line::log_line;
 use run_journal::{Entry, EntryList};
 use std::alloc::Global;
-use vdm_kinds::{Names, OutOfMemory};
+use vdm_kinds::OutOfMemory;
+use vdm_names::Names;
 
 /// The report: the log where it is asked for, then the last line.
 pub fn report_text(

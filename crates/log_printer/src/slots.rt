@@ -8,7 +8,8 @@ ghost use Rattle.report_texts.specs.Values.{slot_text};
 ghost use Rattle.report_texts.specs.Log.{listed, spaced_text, texts_of};
 
 use value_text::{push_slot, push_value};
-use vdm_kinds::{Names, OutOfMemory};
+use vdm_kinds::OutOfMemory;
+use vdm_names::Names;
 use vdm_values::Slot;
 
 /// Appends the texts of slots, as `0, ?`.

@@ -9,7 +9,8 @@ ghost use Rattle.report_texts.specs.Log.{listed, texts_of, pair_text};
 use crate::member::push_variable;
 use run_journal::Write;
 use value_text::push_value;
-use vdm_kinds::{Names, OutOfMemory};
+use vdm_kinds::OutOfMemory;
+use vdm_names::Names;
 
 /// Appends the texts of writes, as ``C`x = 1, C`y = 2``.
 pub(crate) fn push_writes(

@@ -1,1 +1,2 @@
 mod ClassNames
+mod Holding

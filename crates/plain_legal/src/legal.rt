@@ -51,7 +51,7 @@ fn is_legal_behind(spec: &Spec, before: &[Entry], entry: &Entry) -> bool
 }
 
 /// Whether the object is the class object of the class.
-fn is_class_object(spec: &Spec, object: u32, class: Name) -> bool
+pub(crate) fn is_class_object(spec: &Spec, object: u32, class: Name) -> bool
     ensures { IsTrue result ↔ IsClassObject (spec_view spec.now) object class }
 {
     class_at(spec, object as usize) == Some(class)

@@ -2,6 +2,7 @@
 
 ghost use Rattle.std.specs.Prelude.{◌≡◌, ◌↔◌, IsTrue, Some};
 ghost use Rattle.run_journal.specs.Parts.{object_part};
+ghost use Rattle.vdm_values.specs.declared.slot.Slot.{Slot as SlotView};
 ghost use Rattle.vdm_meaning.specs.State.{state_of};
 ghost use Rattle.vdm_tree.specs.ClassView.{spec_view};
 
@@ -21,6 +22,19 @@ pub(crate) fn holds(spec: &Spec, var: VarRef, object: u32, entries: &[Entry], sl
         Some(value) => is_held(slot, value),
         None => match first_slot(spec, var, object, entries) {
             Some(first) => is_same(first, slot),
+            None => false,
+        },
+    }
+}
+
+/// Whether the object has the variable.
+pub(crate) fn has_variable(spec: &Spec, var: VarRef, object: u32, entries: &[Entry]) -> bool
+    ensures { IsTrue result ↔ ((slot : SlotView) × (state_of (spec_view spec.now) (object_part object entries.now) var ≡ Some slot)) }
+{
+    match last_written(var, object, entries) {
+        Some(_) => true,
+        None => match first_slot(spec, var, object, entries) {
+            Some(_) => true,
             None => false,
         },
     }

@@ -7,6 +7,5 @@ mod run;
 mod standing;
 
 pub use plain_legal::is_in_order;
-pub use plain_store::{Finish, finish_of};
 pub use run::is_run;
 pub use standing::{Standing, next_question};

@@ -3,17 +3,18 @@
 ghost use Rattle.std.specs.Prelude.{◌≡◌, ◌↔◌, ◌≤◌, [], length, IfOk, IsTrue, OnOk};
 ghost use Rattle.plain_meaning.specs.Asked.{IsNext};
 ghost use Rattle.stmt_exec.specs.Standing.{rest};
-ghost use Rattle.stmt_exec.specs.Tables.{table_spec};
+ghost use Rattle.class_table.specs.Tables.{table_spec};
 ghost use Rattle.vdm_meaning.specs.Runs.{IsRun};
 ghost use Rattle.vdm_tree.specs.ClassView.{spec_view};
 ghost use Rattle.vdm_tree.specs.View.{view_of};
 
 use crate::asked::is_asked_for;
 use crate::given::answer_of;
+use class_table::Table;
 use plain_legal::is_legal_at_object;
 use run_journal::{Entry, EntryList, every_entry_gives_back, made_where_fits};
 use std::alloc::Global;
-use stmt_exec::{Machine, Table};
+use stmt_exec::Machine;
 use vdm_kinds::OutOfMemory;
 use vdm_tree::{Expr, Spec};
 

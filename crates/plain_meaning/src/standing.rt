@@ -3,14 +3,15 @@
 ghost use Rattle.std.specs.Prelude.{◌≡◌, ◌≤◌, [], length, IfOk};
 ghost use Rattle.plain_meaning.specs.Standings.{stands};
 ghost use Rattle.stmt_exec.specs.Standing.{rest};
-ghost use Rattle.stmt_exec.specs.Tables.{table_spec};
+ghost use Rattle.class_table.specs.Tables.{table_spec};
 ghost use Rattle.vdm_meaning.specs.Main.{main_code};
 ghost use Rattle.vdm_tree.specs.ClassView.{spec_view};
 ghost use Rattle.vdm_tree.specs.View.{view_of};
 
+use class_table::Table;
 use run_journal::{AnswerList, Question};
 use std::alloc::Global;
-use stmt_exec::{Machine, Table};
+use stmt_exec::Machine;
 use vdm_kinds::OutOfMemory;
 use vdm_tree::{Expr, Spec};
 

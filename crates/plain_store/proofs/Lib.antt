@@ -1,7 +1,4 @@
-pub mod Counts
-mod Endings
 mod Entries
 mod LastWrites
 mod Layouts
 mod Numbers
-mod Turns

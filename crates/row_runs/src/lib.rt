@@ -1,29 +1,30 @@
-//! Answers of rows on texts and trees, the machine, and lists of entries that are runs.
+//! Answers of rows on the texts and trees that the program reads so far, and on the plain store.
 //!
-//! A request is a word and what the word asks for; the head of each module says which words it answers.
+//! A request is a word and the words behind it; the head of each module says which words it answers.
 #![tactic(auto)]
 
-mod cases;
-mod judges;
-mod machines;
-mod readiness;
+mod desk;
 mod stores;
 mod tokens;
 mod trees;
 
-use row_notation::Read;
+pub use desk::RunDesk;
+use row_words::{Read, Words};
 use std::alloc::Global;
 
 /// Appends the answer to a request; none where the word is none of this library's.
-pub fn answer(alloc: Global, out: &mut String, word: &str, asked: &str) -> Option<Read<()>> {
+pub fn answer(
+    alloc: Global,
+    out: &mut String,
+    word: &str,
+    words: &mut Words<'_>,
+) -> Option<Read<()>> {
     match word {
-        "tokens" | "spots" => Some(tokens::answer(alloc, out, word, asked)),
+        "tokens" | "spots" | "token-names" => Some(tokens::answer(alloc, out, word, words)),
         "tree" | "spec" | "accepts" | "expr" | "terms" => Some(trees::answer(
-            alloc, out, word, asked,
+            alloc, out, word, words,
         )),
-        "store" | "held" => Some(stores::answer(alloc, out, word, asked)),
-        "play" | "calls" | "asks" => Some(machines::answer(alloc, out, word, asked)),
-        "judge" | "ordered" | "finish" | "run" => Some(judges::answer(alloc, out, word, asked)),
+        "store" | "held" => Some(stores::answer(alloc, out, word, words)),
         _ => None,
     }
 }

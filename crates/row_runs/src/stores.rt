@@ -1,35 +1,40 @@
-// `store SPEC %| QUESTION; QUESTION ..`: the answers of the plain store to the questions in turn, where each may be
-// answered, and the entries. `held SPEC %| N VARIABLE %| ENTRIES`: what the variable of the object holds behind them.
+// `store`: the answers of the plain store to the questions in turn, where each may be answered, and the entries. `held N`:
+// what the variable of the object holds behind the entries; its class and its name are the last two names.
 
-use crate::cases::spec_of;
-use crate::readiness::is_ready;
+use crate::desk::RunDesk;
+use plain_legal::is_ready;
 use plain_store::{Store, state_of};
-use row_entries::{push_answer, push_entries, read_entries, read_variable};
-use row_journals::asked_by;
-use row_notation::{Cursor, Read, Unreadable, cut, number, push_slot};
+use row_journals::push_entries;
+use row_words::{Read, Words, push_names, push_shown};
+use run_journal::Question;
 use std::alloc::Global;
-use vdm_kinds::{Halt, Names};
+use vdm_kinds::VarRef;
 use vdm_tree::Spec;
 
-pub fn answer(alloc: Global, out: &mut String, word: &str, asked: &str) -> Read<()> {
+pub(crate) fn answer(
+    alloc: Global,
+    out: &mut String,
+    word: &str,
+    words: &mut Words<'_>,
+) -> Read<()> {
     if word == "store" {
-        store(alloc, out, asked)
+        store(alloc, out, words)
     } else {
-        held(alloc, out, asked)
+        held(alloc, out, words)
     }
 }
 
-fn store(alloc: Global, out: &mut String, asked: &str) -> Read<()> {
-    let (spec, questions) = cut(asked)?;
-    let (mut names, spec) = spec_of(alloc, spec)?;
+fn store(alloc: Global, out: &mut String, words: &mut Words<'_>) -> Read<()> {
+    let mut desk = RunDesk::by(alloc, words)?;
+    let questions = desk.journal.questions.split_off(0)?;
     let mut store = Store::new(alloc);
-    for question in questions.split("; ") {
-        push_answered(alloc, out, &spec, &mut store, question, &mut names)?;
+    for question in questions {
+        push_answered(alloc, out, &desk.spec, &mut store, question)?;
         out.push_str("; ")?;
     }
     out.push_str("entries")?;
-    push_entries(alloc, out, &store.into_journal(), &names)?;
-    Ok(())
+    push_entries(out, store.entries())?;
+    Ok(push_names(out, &desk.journal.values.names)?)
 }
 
 fn push_answered(
@@ -37,29 +42,23 @@ fn push_answered(
     out: &mut String,
     spec: &Spec,
     store: &mut Store,
-    question: &str,
-    names: &mut Names,
+    question: Question,
 ) -> Read<()> {
-    let question = asked_by(alloc, question, names)?;
-    if is_ready(alloc, spec, store.entries(), &question)? {
-        let answer = store.answer(alloc, spec, question)?;
-        push_answer(alloc, out, &answer, names)?;
-    } else {
-        out.push_str("not ready")?;
+    if !is_ready(spec, store.entries().as_slice(), &question) {
+        return Ok(out.push_str("not ready")?);
     }
-    Ok(())
+    let answer = store.answer(alloc, spec, question)?;
+    Ok(push_shown(out, &answer)?)
 }
 
-fn held(alloc: Global, out: &mut String, asked: &str) -> Read<()> {
-    let (spec, rest) = cut(asked)?;
-    let (mut names, spec) = spec_of(alloc, spec)?;
-    let (variable, entries) = rest.split_once(" %| ").unwrap_or((rest, ""));
-    let (object, variable) = variable.split_once(' ').ok_or(Halt::Of(Unreadable))?;
-    let variable = read_variable(&mut Cursor::new(variable), &mut names)?;
-    let entries = read_entries(alloc, entries, &mut names)?;
-    match state_of(alloc, &spec, &entries, number(object)?, variable)? {
-        Some(slot) => push_slot(alloc, out, &slot, &names)?,
+fn held(alloc: Global, out: &mut String, words: &mut Words<'_>) -> Read<()> {
+    let object = words.number()?;
+    let desk = RunDesk::by(alloc, words)?;
+    let (class, name) = desk.journal.values.last_names()?;
+    let variable = VarRef { class, name };
+    match state_of(alloc, &desk.spec, &desk.journal.entries, object, variable)? {
+        Some(slot) => push_shown(out, &slot)?,
         None => out.push_str("none")?,
     }
-    Ok(())
+    Ok(push_names(out, &desk.journal.values.names)?)
 }

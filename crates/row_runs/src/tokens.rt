@@ -1,29 +1,28 @@
 // `tokens PART TEXT`: the tokens of a text that the program reads so far, a name as #3, a literal by its value, a sign or
-// word by its own name; or `refused`. Behind ` %| ` may stand an expression, whose tokens are told instead, with the
-// names of both texts. `spots PART TEXT`: where they begin, as line:column.
+// word by its own name; or `refused`. Behind it may stand the text of an expression, whose tokens are told instead, with
+// the names of both texts. `spots PART TEXT`: where they begin. `token-names ..`: how many names there are then, and their
+// texts.
 
 use first_tokens::lex;
-use row_notation::{Read, Unreadable, bytes_of, part_and_text, push_spot};
-use row_values::push_blank;
+use row_words::{Read, Unreadable, Words, push_blank, push_shown, push_texts};
 use std::alloc::Global;
 use std::fmt::Write;
 use vdm_grammar::{Token, TokenKind};
-use vdm_kinds::{Halt, Names, OutOfMemory, Part};
+use vdm_kinds::{Halt, OutOfMemory, Part};
+use vdm_names::Names;
 
 /// More bytes than any row has.
 const MOST: usize = 1_000_000;
 
-pub fn answer(alloc: Global, out: &mut String, word: &str, asked: &str) -> Read<()> {
-    let (part, text) = part_and_text(asked)?;
+pub(crate) fn answer(
+    alloc: Global,
+    out: &mut String,
+    word: &str,
+    words: &mut Words<'_>,
+) -> Read<()> {
     let mut names = Names::new(alloc)?;
-    let found = match text.split_once(" %| ") {
-        Some((spec, expression)) => {
-            let _before = lexed(alloc, part, spec, &mut names)?;
-            lexed(alloc, Part::Expr, expression, &mut names)?
-        }
-        None => lexed(alloc, part, text, &mut names)?,
-    };
-    match found {
+    match found_by(alloc, words, &mut names)? {
+        Some(_) if word == "token-names" => push_all_names(out, &names),
         Some(tokens) if tokens.is_empty() => Ok(out.push_str("no token")?),
         Some(tokens) if word == "tokens" => Ok(push_kinds(out, &tokens)?),
         Some(tokens) => Ok(push_spots(out, &tokens)?),
@@ -31,12 +30,26 @@ pub fn answer(alloc: Global, out: &mut String, word: &str, asked: &str) -> Read<
     }
 }
 
-fn lexed(alloc: Global, part: Part, text: &str, names: &mut Names) -> Read<Option<Vec<Token>>> {
-    let text = bytes_of(alloc, text)?;
+fn found_by(alloc: Global, words: &mut Words<'_>, names: &mut Names) -> Read<Option<Vec<Token>>> {
+    let part = words.part()?;
+    let found = lexed(alloc, part, &words.text(alloc)?, names)?;
+    if words.is_over() {
+        return Ok(found);
+    }
+    lexed(alloc, Part::Expr, &words.text(alloc)?, names)
+}
+
+fn push_all_names(out: &mut String, names: &Names) -> Read<()> {
+    let count = names.len();
+    write!(out, "{count}:")?;
+    Ok(push_texts(out, names)?)
+}
+
+fn lexed(alloc: Global, part: Part, text: &[u8], names: &mut Names) -> Read<Option<Vec<Token>>> {
     if text.len() > MOST || names.len() > MOST {
         return Err(Halt::Of(Unreadable));
     }
-    match lex(alloc, part, &text, names) {
+    match lex(alloc, part, text, names) {
         Ok(tokens) => Ok(Some(tokens)),
         Err(Halt::Of(_)) => Ok(None),
         Err(Halt::OutOfMemory) => Err(Halt::OutOfMemory),
@@ -66,7 +79,7 @@ fn push_kind(out: &mut String, kind: TokenKind) -> Result<(), OutOfMemory> {
 fn push_spots(out: &mut String, tokens: &[Token]) -> Result<(), OutOfMemory> {
     for (index, token) in tokens.iter().enumerate() {
         push_blank(out, index)?;
-        push_spot(out, token.place)?;
+        push_shown(out, &token.place)?;
     }
     Ok(())
 }

@@ -1,57 +1,99 @@
-// `tree TREE`: a tree, read and written again. `spec TEXT`: the names of a specification and its tree, or its refusal.
-// `accepts TEXT`: whether it is one. `expr SPEC %| TEXT`: the tree of an expression behind a specification, or its
-// refusal. `terms SPEC %| TEXT`: how many terms it has.
+// `tree`: the last tree. `spec TEXT`: a specification, or its refusal. `accepts TEXT`: whether it is one. `expr TEXT`: the
+// tree of an expression behind a specification, or its refusal. `terms`: how many terms the last tree has.
 
-use crate::cases::{case_of, expression_of, spec_of};
+use crate::desk::RunDesk;
 use first_reader::read_specification;
-use row_notation::{Read, bytes_of, cut};
-use row_trees::{push_spec, push_tree, read_tree};
-use row_values::push_refused;
+use row_words::{Read, Unreadable, Words, last, popped, push_names, push_refused, push_shown};
 use std::alloc::Global;
 use std::fmt::Write;
-use vdm_kinds::{Halt, Name, Names, OutOfMemory, Part, SpecFault};
-use vdm_tree::{Expr, Spec};
+use vdm_kinds::{Halt, Operator, Part, SpecFault};
+use vdm_names::Names;
+use vdm_tree::Expr;
 
-pub fn answer(alloc: Global, out: &mut String, word: &str, asked: &str) -> Read<()> {
-    match word {
-        "tree" => tree(alloc, out, asked),
-        "spec" => spec(alloc, out, asked),
-        "accepts" => accepts(alloc, out, asked),
-        "terms" => terms(alloc, out, asked),
-        _ => expression(alloc, out, asked),
-    }
-}
-
-fn tree(alloc: Global, out: &mut String, asked: &str) -> Read<()> {
-    let mut names = Names::new(alloc)?;
-    let tree = read_tree(alloc, asked, Part::Expr, &mut names)?;
-    Ok(push_tree(alloc, out, &tree, &names)?)
-}
-
-fn spec(alloc: Global, out: &mut String, asked: &str) -> Read<()> {
-    let text = bytes_of(alloc, asked)?;
-    let mut names = Names::new(alloc)?;
-    match read_specification(alloc, &text, &mut names) {
-        Ok(spec) => Ok(push_named(alloc, out, &spec, &names)?),
-        Err(halt) => push_halt(out, halt),
-    }
-}
-
-// The texts of the names in order, and the classes behind them.
-fn push_named(
+pub(crate) fn answer(
     alloc: Global,
     out: &mut String,
-    spec: &Spec,
-    names: &Names,
-) -> Result<(), OutOfMemory> {
-    for number in 0..names.len() {
-        if let Ok(number) = u32::try_from(number) {
-            out.push_str(names.text(Name(number)).unwrap_or(""))?;
-            out.push(' ')?;
-        }
+    word: &str,
+    words: &mut Words<'_>,
+) -> Read<()> {
+    match word {
+        "spec" => spec(alloc, out, &words.text(alloc)?),
+        "accepts" => accepts(alloc, out, &words.text(alloc)?),
+        "expr" => expression(alloc, out, words),
+        _ => on_tree(alloc, out, word, words),
     }
-    out.push_str("%|")?;
-    push_spec(alloc, out, spec, names)
+}
+
+/// The tree that stands next. Its places are in the expression.
+pub(crate) fn tree_by(alloc: Global, desk: &mut RunDesk, words: &mut Words<'_>) -> Read<Expr> {
+    match words.word() {
+        "whole" => Ok(Expr::whole(words.integer()?, words.spot(Part::Expr)?)),
+        "name" => Ok(Expr::name(desk.journal.values.name(words)?, words.spot(Part::Expr)?)),
+        "plus" => sum(alloc, &mut desk.trees, words),
+        "apply" => application(alloc, &mut desk.trees, words),
+        "new" => creation(desk, words),
+        "select" => selection(alloc, desk, words),
+        _ => Err(Halt::Of(Unreadable)),
+    }
+}
+
+fn sum(alloc: Global, trees: &mut Vec<Expr>, words: &mut Words<'_>) -> Read<Expr> {
+    let place = words.spot(Part::Expr)?;
+    let right = popped(trees)?;
+    let left = popped(trees)?;
+    Ok(Expr::infix(alloc, left, Operator::Plus, right, place)?)
+}
+
+fn application(alloc: Global, trees: &mut Vec<Expr>, words: &mut Words<'_>) -> Read<Expr> {
+    let count = words.count()?;
+    let place = words.spot(Part::Expr)?;
+    let arguments = last(trees, count)?;
+    Ok(Expr::apply(alloc, popped(trees)?, arguments, place)?)
+}
+
+fn creation(desk: &mut RunDesk, words: &mut Words<'_>) -> Read<Expr> {
+    let class = desk.journal.values.name(words)?;
+    let class_place = words.spot(Part::Expr)?;
+    let count = words.count()?;
+    let place = words.spot(Part::Expr)?;
+    Ok(Expr::create(class, class_place, last(&mut desk.trees, count)?, place))
+}
+
+fn selection(alloc: Global, desk: &mut RunDesk, words: &mut Words<'_>) -> Read<Expr> {
+    let name = desk.journal.values.name(words)?;
+    let name_place = words.spot(Part::Expr)?;
+    let place = words.spot(Part::Expr)?;
+    Ok(Expr::select(alloc, popped(&mut desk.trees)?, name, name_place, place)?)
+}
+
+fn on_tree(alloc: Global, out: &mut String, word: &str, words: &mut Words<'_>) -> Read<()> {
+    let desk = RunDesk::by(alloc, words)?;
+    let tree = desk.tree()?;
+    if word == "terms" {
+        let terms = terms_of(tree);
+        write!(out, "{terms}")?;
+    } else {
+        push_shown(out, tree)?;
+    }
+    Ok(push_names(out, &desk.journal.values.names)?)
+}
+
+// How many literals a sum of literals has.
+fn terms_of(tree: &Expr) -> u64 {
+    match tree {
+        Expr::Whole(..) => 1,
+        Expr::Infix(left, _, right, _) => terms_of(left).saturating_add(terms_of(right)),
+        _ => 0,
+    }
+}
+
+fn spec(alloc: Global, out: &mut String, text: &[u8]) -> Read<()> {
+    let mut names = Names::new(alloc)?;
+    match read_specification(alloc, text, &mut names) {
+        Ok(spec) => push_shown(out, &spec)?,
+        Err(halt) => push_halt(out, halt)?,
+    }
+    Ok(push_names(out, &names)?)
 }
 
 fn push_halt(out: &mut String, halt: Halt<SpecFault>) -> Read<()> {
@@ -61,36 +103,21 @@ fn push_halt(out: &mut String, halt: Halt<SpecFault>) -> Read<()> {
     }
 }
 
-fn accepts(alloc: Global, out: &mut String, asked: &str) -> Read<()> {
-    let text = bytes_of(alloc, asked)?;
+fn accepts(alloc: Global, out: &mut String, text: &[u8]) -> Read<()> {
     let mut names = Names::new(alloc)?;
-    match read_specification(alloc, &text, &mut names) {
+    match read_specification(alloc, text, &mut names) {
         Ok(_) => Ok(out.push_str("yes")?),
         Err(Halt::Of(_)) => Ok(out.push_str("no")?),
         Err(Halt::OutOfMemory) => Err(Halt::OutOfMemory),
     }
 }
 
-fn terms(alloc: Global, out: &mut String, asked: &str) -> Read<()> {
-    let (case, _) = case_of(alloc, asked)?;
-    let terms = terms_of(&case.tree);
-    Ok(write!(out, "{terms}")?)
-}
-
-// One more than the operators, along the left side.
-fn terms_of(tree: &Expr) -> u64 {
-    match tree {
-        Expr::Infix(left, _, _, _) => terms_of(left).saturating_add(1),
-        _ => 1,
+fn expression(alloc: Global, out: &mut String, words: &mut Words<'_>) -> Read<()> {
+    let text = words.text(alloc)?;
+    let mut desk = RunDesk::by(alloc, words)?;
+    match desk.expression(alloc, &text)? {
+        Ok(tree) => push_shown(out, &tree)?,
+        Err(halt) => push_halt(out, halt)?,
     }
-}
-
-fn expression(alloc: Global, out: &mut String, asked: &str) -> Read<()> {
-    let (spec, text) = cut(asked)?;
-    let (mut names, spec) = spec_of(alloc, spec)?;
-    let text = bytes_of(alloc, text)?;
-    match expression_of(alloc, &text, &spec, &mut names)? {
-        Ok(tree) => Ok(push_tree(alloc, out, &tree, &names)?),
-        Err(halt) => push_halt(out, halt),
-    }
+    Ok(push_names(out, &desk.journal.values.names)?)
 }

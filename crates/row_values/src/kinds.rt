@@ -1,65 +1,90 @@
 // `take N`: the units that are left of N once a task took one. `refusal N` and `fault N`: the number and the name of a
-// fault. `names WORD ..`: the number and the text of each word's name, and how many names there are. `name N WORD ..`:
-// the text of the name of number N, once the words have names.
+// fault. `names TEXT ..`: the number and the text of each text's name, and how many names there are. `name N TEXT ..`:
+// the text of the name of number N, once the texts have names.
 
 use plans::take_unit;
-use row_notation::{Cursor, Read, Unreadable, number, read_name, run_fault, spec_kind, whole};
+use row_words::{Read, Unreadable, Words, run_fault, spec_kind};
 use std::alloc::Global;
 use std::fmt::Write;
-use vdm_kinds::{Halt, Name, Names};
+use vdm_kinds::{Halt, Name};
+use vdm_names::Names;
+
+/// More names than any row has.
+const MOST_NAMES: usize = 1_000_000;
 
 const NONE: &str = "none";
 
-pub fn answer(alloc: Global, out: &mut String, word: &str, asked: &str) -> Read<()> {
+pub(crate) fn answer(
+    alloc: Global,
+    out: &mut String,
+    word: &str,
+    words: &mut Words<'_>,
+) -> Read<()> {
     match word {
-        "take" => take(alloc, out, asked),
-        "refusal" => refusal(alloc, out, asked),
-        "fault" => fault(alloc, out, asked),
-        "names" => names(alloc, out, asked),
-        _ => name(alloc, out, asked),
+        "take" => take(out, words.whole()?),
+        "refusal" => refusal(out, words.number()?),
+        "fault" => fault(out, words.number()?),
+        "names" => names(alloc, out, words),
+        _ => name(alloc, out, words),
     }
 }
 
-fn take(alloc: Global, out: &mut String, asked: &str) -> Read<()> {
-    match take_unit(whole(asked)?) {
+fn take(out: &mut String, units: u64) -> Read<()> {
+    match take_unit(units) {
         Some(left) => Ok(write!(out, "{left}")?),
         None => Ok(out.push_str(NONE)?),
     }
 }
 
-fn refusal(alloc: Global, out: &mut String, asked: &str) -> Read<()> {
-    match spec_kind(number(asked)?) {
+fn refusal(out: &mut String, number: u32) -> Read<()> {
+    match spec_kind(number) {
         Some(kind) => Ok(write!(out, "{} {}", kind.number(), kind.name())?),
         None => Ok(out.push_str(NONE)?),
     }
 }
 
-fn fault(alloc: Global, out: &mut String, asked: &str) -> Read<()> {
-    match run_fault(number(asked)?) {
+fn fault(out: &mut String, number: u32) -> Read<()> {
+    match run_fault(number) {
         Some(fault) => Ok(write!(out, "{} {}", fault.number(), fault.name())?),
         None => Ok(out.push_str(NONE)?),
     }
 }
 
-fn names(alloc: Global, out: &mut String, asked: &str) -> Read<()> {
+fn names(alloc: Global, out: &mut String, words: &mut Words<'_>) -> Read<()> {
     let mut names = Names::new(alloc)?;
-    for word in asked.split(' ') {
-        let name = read_name(&mut Cursor::new(word), &mut names)?;
-        let text = names.text(name).unwrap_or("");
-        let number = name.0;
-        write!(out, "{number} {text}, ")?;
+    for _text in 0..words.bound() {
+        if words.is_over() {
+            break;
+        }
+        let name = named(alloc, words, &mut names)?;
+        push_named(out, name, &names)?;
     }
     let count = names.len();
-    write!(out, "of {count}")?;
-    Ok(())
+    Ok(write!(out, "of {count}")?)
 }
 
-fn name(alloc: Global, out: &mut String, asked: &str) -> Read<()> {
-    let (asked_for, words) = asked.split_once(' ').ok_or(Halt::Of(Unreadable))?;
-    let mut names = Names::new(alloc)?;
-    for word in words.split(' ') {
-        read_name(&mut Cursor::new(word), &mut names)?;
+fn named(alloc: Global, words: &mut Words<'_>, names: &mut Names) -> Read<Name> {
+    let text = String::from_utf8(words.text(alloc)?).map_err(|_| Halt::Of(Unreadable))?;
+    if names.len() > MOST_NAMES {
+        return Err(Halt::Of(Unreadable));
     }
-    let text = names.text(Name(number(asked_for)?)).unwrap_or(NONE);
-    Ok(out.push_str(text)?)
+    Ok(names.name(text.as_str())?)
+}
+
+fn push_named(out: &mut String, name: Name, names: &Names) -> Read<()> {
+    let text = names.text(name).unwrap_or("");
+    let number = name.0;
+    Ok(write!(out, "{number} {text}, ")?)
+}
+
+fn name(alloc: Global, out: &mut String, words: &mut Words<'_>) -> Read<()> {
+    let number = words.number()?;
+    let mut names = Names::new(alloc)?;
+    for _text in 0..words.bound() {
+        if words.is_over() {
+            break;
+        }
+        named(alloc, words, &mut names)?;
+    }
+    Ok(out.push_str(names.text(Name(number)).unwrap_or(NONE))?)
 }

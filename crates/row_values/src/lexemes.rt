@@ -2,16 +2,20 @@
 // Text, Quote, Reserved, Sign, End) and its bytes, or the fault. `places PART TEXT`: where they begin, as
 // line:column:byte.
 
-use log_printer::push_place;
-use row_notation::{Read, bytes_of, part_and_text};
+use row_words::{Read, Words, push_blank, push_refused};
 use std::alloc::Global;
 use std::fmt::Write;
-use vdm_kinds::{Halt, OutOfMemory, SpecFault};
+use vdm_kinds::{Halt, OutOfMemory};
 use vdm_lexer::{LexKind, Lexeme, lex};
 
-pub fn answer(alloc: Global, out: &mut String, word: &str, asked: &str) -> Read<()> {
-    let (part, text) = part_and_text(asked)?;
-    let text = bytes_of(alloc, text)?;
+pub(crate) fn answer(
+    alloc: Global,
+    out: &mut String,
+    word: &str,
+    words: &mut Words<'_>,
+) -> Read<()> {
+    let part = words.part()?;
+    let text = words.text(alloc)?;
     match lex(alloc, part, &text) {
         Ok(lexemes) => Ok(push_all(out, &lexemes, word == "lex")?),
         Err(Halt::Of(fault)) => Ok(push_refused(out, fault)?),
@@ -27,14 +31,6 @@ fn push_all(out: &mut String, lexemes: &[Lexeme], has_kinds: bool) -> Result<(),
         } else {
             push_beginning(out, lexeme)?;
         }
-    }
-    Ok(())
-}
-
-/// What stands before the item of this index.
-pub fn push_blank(out: &mut String, index: usize) -> Result<(), OutOfMemory> {
-    if index > 0 {
-        out.push(' ')?;
     }
     Ok(())
 }
@@ -65,11 +61,4 @@ fn letter_of(kind: LexKind) -> char {
         LexKind::Sign => 'S',
         LexKind::End => 'E',
     }
-}
-
-/// Appends the number, the name and the place of a refusal, as the program writes them.
-pub fn push_refused(out: &mut String, fault: SpecFault) -> Result<(), OutOfMemory> {
-    let kind = fault.kind;
-    write!(out, "{} {} at ", kind.number(), kind.name())?;
-    push_place(out, fault.place)
 }

@@ -1,32 +1,66 @@
 //! Answers of rows on names, faults, lexemes, values and sets.
 //!
-//! A request is a word and what the word asks for; the head of each module says which words it answers.
+//! A request is a word and the words behind it; the head of each module says which words it answers.
 #![tactic(auto)]
 
+mod desk;
 mod insertion;
 mod kinds;
 mod lexemes;
 mod sets;
+mod times;
 mod values;
 
-pub use lexemes::{push_blank, push_refused};
-use row_notation::Read;
+pub use desk::ValueDesk;
+use row_words::{Read, Words, push_names};
 use std::alloc::Global;
-pub use values::value_of;
+pub use times::push_time;
 
 /// Appends the answer to a request; none where the word is none of this library's.
-pub fn answer(alloc: Global, out: &mut String, word: &str, asked: &str) -> Option<Read<()>> {
+pub fn answer(
+    alloc: Global,
+    out: &mut String,
+    word: &str,
+    words: &mut Words<'_>,
+) -> Option<Read<()>> {
     match word {
         "take" | "refusal" | "fault" | "names" | "name" => Some(kinds::answer(
-            alloc, out, word, asked,
+            alloc, out, word, words,
         )),
-        "lex" | "places" => Some(lexemes::answer(alloc, out, word, asked)),
-        "order" | "rising" | "apart" | "same" | "size" | "list" | "pairs" | "slots" => {
-            Some(values::answer(alloc, out, word, asked))
-        }
-        "set" | "map" | "set-size" | "map-size" | "insertion" | "insertion-of-pairs" => {
-            Some(sets::answer(alloc, out, word, asked))
-        }
+        "lex" | "places" => Some(lexemes::answer(alloc, out, word, words)),
+        "order"
+        | "rising"
+        | "apart"
+        | "same"
+        | "taken"
+        | "size"
+        | "list"
+        | "pairs"
+        | "slots"
+        | "set"
+        | "map"
+        | "set-size"
+        | "map-size"
+        | "insertion"
+        | "insertion-of-pairs" => { Some(on_values(alloc, out, word, words)) }
         _ => None,
     }
+}
+
+// An answer on the values that the words make.
+fn on_values(alloc: Global, out: &mut String, word: &str, words: &mut Words<'_>) -> Read<()> {
+    let mut desk = ValueDesk::new(alloc)?;
+    for _word in 0..words.bound() {
+        if words.is_over() {
+            break;
+        }
+        desk.follow(alloc, words.word(), words)?;
+    }
+    match word {
+        "set" | "map" | "set-size" | "map-size" | "insertion" | "insertion-of-pairs" => {
+            sets::answer(alloc, out, word, desk.take_values()?)?
+        }
+        _ => values::answer(alloc, out, word, &mut desk)?,
+    }
+    Ok(push_names(out, &desk.names)?)
 }

@@ -1,30 +1,24 @@
-// `set [V ..]`: the set of the items. `map [mk_(K, V) ..]`: the map of the pairs. `set-size [V ..]` and `map-size ..`:
-// nodes and levels of it. A refusal is told by its number and name. `insertion [V ..]` and
-// `insertion-of-pairs [mk_(K, V) ..]`: how many the plain program leaves, which inserts one after another, and whether the
-// set or map has these.
+// `set V ..`: the set of the values. `map V ..`: the map of the pairs, which are tuples of two. `set-size` and `map-size`:
+// nodes and levels of it. A refusal is told by its number and name. `insertion` and `insertion-of-pairs`: how many the
+// plain program leaves, which inserts one after another, and whether the set or map has these.
 
+use crate::desk::pairs_of;
 use crate::insertion::rising_by_insertion;
-use crate::values::{items_of, push_size, value_of};
-use row_notation::{Read, Unreadable, push_value};
+use crate::values::push_size;
+use row_words::{Read, push_shown};
 use std::alloc::Global;
 use std::fmt::Write;
-use vdm_kinds::{Halt, Names, RunFault};
-use vdm_values::{Node, PairList, Value, ValueList, map_from, set_from};
+use vdm_kinds::{Halt, RunFault};
+use vdm_sets::{map_from, set_from};
+use vdm_values::{Node, PairList, Value, ValueList};
 
-pub fn answer(alloc: Global, out: &mut String, word: &str, asked: &str) -> Read<()> {
-    let mut names = Names::new(alloc)?;
-    let items = items_of(value_of(alloc, asked, &mut names)?)?;
+pub(crate) fn answer(alloc: Global, out: &mut String, word: &str, items: Vec<Value>) -> Read<()> {
     match word {
         "insertion" => inserted(alloc, out, items),
         "insertion-of-pairs" => inserted_pairs(alloc, out, pairs_of(alloc, items)?),
-        "set" => push_made(
-            alloc,
-            out,
-            set_from(alloc, ValueList::from_vec(items)),
-            &names,
-        ),
+        "set" => push_made(out, set_from(alloc, ValueList::from_vec(items))),
         "set-size" => push_made_size(out, set_from(alloc, ValueList::from_vec(items))),
-        "map" => push_made(alloc, out, mapped(alloc, items)?, &names),
+        "map" => push_made(out, mapped(alloc, items)?),
         _ => push_made_size(out, mapped(alloc, items)?),
     }
 }
@@ -36,28 +30,9 @@ fn mapped(alloc: Global, items: Vec<Value>) -> Read<Made> {
     Ok(map_from(alloc, pairs))
 }
 
-// Each item is a tuple of a key and a value.
-fn pairs_of(alloc: Global, items: Vec<Value>) -> Read<Vec<(Value, Value)>> {
-    let mut pairs = Vec::new(alloc);
-    for item in items {
-        pairs.push(pair_of(item)?)?;
-    }
-    Ok(pairs)
-}
-
-fn pair_of(item: Value) -> Read<(Value, Value)> {
-    let Node::Tuple(mut parts) = item.into_node() else {
-        return Err(Halt::Of(Unreadable));
-    };
-    match (parts.pop(), parts.pop()) {
-        (Some(value), Some(key)) => Ok((key, value)),
-        _ => Err(Halt::Of(Unreadable)),
-    }
-}
-
-fn push_made(alloc: Global, out: &mut String, made: Made, names: &Names) -> Read<()> {
+fn push_made(out: &mut String, made: Made) -> Read<()> {
     match made {
-        Ok(value) => Ok(push_value(alloc, out, &value, names)?),
+        Ok(value) => Ok(push_shown(out, &value)?),
         Err(halt) => push_halt(out, halt),
     }
 }

@@ -1,13 +1,14 @@
 //! Answers rows: each line of standard input is a request, and its answer is a line of standard output.
 //!
-//! A request is a word and what the word asks for; `row_notation` says how that is written, and `row_values`,
-//! `row_journals`, `row_runs` and the modules here which words there are. A line that is no request is answered by `unreadable`.
+//! A request is a line of words, the first of which says what is asked; `row_values`, `row_journals`, `row_logs`,
+//! `row_runs` and the modules here say which there are. A line that is no request is answered by `unreadable`.
 #![tactic(auto)]
 
+mod judges;
+mod machines;
 mod programs;
-mod times;
 
-use row_notation::Read;
+use row_words::{Read, Words};
 use std::alloc::Global;
 use std::io::{self, BufRead, BufReader, BufWriter, ErrorKind, Write};
 use std::rt::Clock;
@@ -27,30 +28,47 @@ fn main(rt: HostRuntime) -> io::Result<()> {
 fn answer<R: Clock>(rt: &R, alloc: Global, line: &str) -> io::Result<String> {
     let mut out = String::new(alloc);
     match line.strip_prefix("time ") {
-        Some(asked) => times::push_answer(rt, alloc, &mut out, asked)?,
+        Some(asked) => row_values::push_time(rt, alloc, &mut out, asked)?,
         None => push_answer(alloc, &mut out, line)?,
     }
     Ok(out)
 }
 
 fn push_answer(alloc: Global, out: &mut String, line: &str) -> io::Result<()> {
-    let (word, asked) = line.split_once(' ').unwrap_or((line, ""));
-    match answer_to(alloc, out, word, asked) {
+    match answer_to(alloc, out, &mut Words::new(line)) {
         Ok(()) => Ok(()),
-        Err(Halt::Of(_)) => Ok(out.push_str("unreadable")?),
+        Err(Halt::Of(_)) => {
+            out.clear();
+            Ok(out.push_str("unreadable")?)
+        }
         Err(Halt::OutOfMemory) => Err(ErrorKind::OutOfMemory.into()),
     }
 }
 
-fn answer_to(alloc: Global, out: &mut String, word: &str, asked: &str) -> Read<()> {
-    if word == "main" {
-        return programs::answer(alloc, out, asked);
+fn answer_to(alloc: Global, out: &mut String, words: &mut Words<'_>) -> Read<()> {
+    let word = words.word();
+    match word {
+        "main" => programs::answer(alloc, out, words),
+        "play" | "calls" | "asks" => machines::answer(alloc, out, word, words),
+        "judge" | "ordered" | "finish" | "run" => judges::answer(alloc, out, word, words),
+        _ => answer_of_library(alloc, out, word, words),
     }
-    if let Some(answer) = row_values::answer(alloc, out, word, asked) {
+}
+
+fn answer_of_library(
+    alloc: Global,
+    out: &mut String,
+    word: &str,
+    words: &mut Words<'_>,
+) -> Read<()> {
+    if let Some(answer) = row_values::answer(alloc, out, word, words) {
         return answer;
     }
-    match row_runs::answer(alloc, out, word, asked) {
+    if let Some(answer) = row_runs::answer(alloc, out, word, words) {
+        return answer;
+    }
+    match row_logs::answer(alloc, out, word, words) {
         Some(answer) => answer,
-        None => row_journals::answer(alloc, out, word, asked),
+        None => row_journals::answer(alloc, out, word, words),
     }
 }

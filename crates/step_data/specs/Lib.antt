@@ -1,4 +1,2 @@
-pub mod Definitions
-pub mod Tables
 pub mod Parts
 pub mod Steps

@@ -17,7 +17,7 @@ use Rattle.step_data.specs.declared.flow.Flow.{Flow}
 use Rattle.step_data.specs.declared.flow.Flow.TheVariants.{Gave, Next, Returned}
 use Rattle.step_data.specs.declared.task.Task.{Task}
 use Rattle.step_data.specs.declared.task.Task.TheVariants.{Expr, Call as CallTask, Stmt as StmtTask}
-use Rattle.step_data.specs.Tables.{class_of}
+use Rattle.class_table.specs.Tables.{class_of}
 
 abbrev pub wanted_of : Wanted → MeantWanted
 wanted_of Value = a_value

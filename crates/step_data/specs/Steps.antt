@@ -25,8 +25,8 @@ use Rattle.step_data.specs.declared.frame.Frame.{Frame}
 use Rattle.step_data.specs.declared.frame.Frame.TheVariants.{With, Called, Rest, Body, End}
 use Rattle.step_data.specs.declared.step.Step.{Step}
 use Rattle.step_data.specs.declared.step.Step.TheVariants.{Finish as Done, Fail, Ask, Part}
-use Rattle.step_data.specs.declared.table.Table.{Table}
-use Rattle.step_data.specs.Tables.{class_of, table_spec, variables_from}
+use Rattle.class_table.specs.declared.table.Table.{Table}
+use Rattle.class_table.specs.Tables.{class_of, table_spec, variables_from}
 use Rattle.step_data.specs.Parts.{wanted_of, env_of, flow_of, task_of, call_class, call_operation, statements_of}
 
 -- what is done with a value

@@ -2,7 +2,7 @@
 
 use crate::call::Call;
 use crate::flow::Flow;
-use crate::table::Table;
+use class_table::Table;
 use vdm_kinds::{Name, Place, VarRef};
 use vdm_tree::Expr;
 use vdm_values::{Slot, SlotList, Value};

@@ -4,7 +4,7 @@ ghost use Rattle.std.specs.Prelude.{◌≡◌};
 ghost use Rattle.vdm_meaning.specs.Calls.{operation_ref};
 ghost use Rattle.step_data.specs.Parts.{call_class, call_operation};
 
-use crate::members::Members;
+use class_table::Members;
 use vdm_kinds::{OpRef, Place};
 use vdm_tree::OpDef;
 

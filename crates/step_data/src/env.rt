@@ -1,6 +1,6 @@
 // Whose variables and operations a node names.
 
-use crate::members::Members;
+use class_table::Members;
 
 /// Whose variables and operations a node names.
 #[derive(Clone, Copy)]

@@ -2,7 +2,7 @@
 
 use crate::call::{Call, Wanted};
 use crate::env::Env;
-use crate::members::Members;
+use class_table::Members;
 use vdm_kinds::{Name, Operator, Place};
 use vdm_tree::{Expr, Stmt, Target};
 use vdm_values::{Slot, Value};

@@ -3,7 +3,7 @@
 ghost use Rattle.std.specs.Prelude.{◌≡◌};
 ghost use Rattle.vdm_meaning.specs.Types.{fits, slot_fits, all_fit};
 ghost use Rattle.vdm_tree.specs.StmtView.{type_view};
-ghost use Rattle.step_data.specs.Tables.{variables_at};
+ghost use Rattle.class_table.specs.Tables.{variables_at};
 
 use vdm_tree::{TypeExpr, VarDef};
 use vdm_values::{Node, Slot, Value};

@@ -20,7 +20,7 @@ use Rattle.stmt_exec.specs.declared.machine.Rest.{Rest}
 use Rattle.stmt_exec.specs.declared.machine.Rest.TheVariants.{Asks, Fails, Over, Spent}
 use Rattle.step_data.specs.declared.asking.Asking.{Asking}
 use Rattle.stmt_exec.specs.declared.machine.Machine.{Machine}
-use Rattle.step_data.specs.Tables.{table_spec}
+use Rattle.class_table.specs.Tables.{table_spec}
 use Rattle.step_data.specs.declared.step.Step.{Step}
 use Rattle.step_data.specs.declared.task.Task.{Task as Entered}
 use Rattle.step_data.specs.Parts.{task_of}

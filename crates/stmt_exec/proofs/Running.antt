@@ -12,9 +12,9 @@ use Rattle.step_data.specs.declared.frame.Frame.{Frame}
 use Rattle.stmt_exec.specs.declared.machine.Machine.{Machine}
 use Rattle.step_data.specs.declared.step.Step.{Step}
 use Rattle.step_data.specs.declared.step.Step.TheVariants.{Finish as Done, Fail, Ask, Part}
-use Rattle.step_data.specs.declared.table.Table.{Table}
+use Rattle.class_table.specs.declared.table.Table.{Table}
 use Rattle.step_data.specs.declared.task.Task.{Task}
-use Rattle.step_data.specs.Tables.{table_spec}
+use Rattle.class_table.specs.Tables.{table_spec}
 use Rattle.step_data.specs.Parts.{flow_of}
 use Rattle.step_data.specs.Steps.{then_of, code_of, weight, height}
 use Rattle.stmt_exec.specs.Standing.{stands, stands_with, load}

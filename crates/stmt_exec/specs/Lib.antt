@@ -1,2 +1,1 @@
-pub use Rattle.step_data.specs.Tables
 pub mod Standing

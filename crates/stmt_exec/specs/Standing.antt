@@ -14,7 +14,7 @@ use Rattle.stmt_exec.specs.declared.machine.Machine.{Machine}
 use Rattle.stmt_exec.specs.declared.machine.Rest.{Rest}
 use Rattle.stmt_exec.specs.declared.machine.Rest.TheVariants.{Asks, Fails, Over, Spent}
 use Rattle.step_data.specs.declared.step.Step.{Step}
-use Rattle.step_data.specs.Tables.{table_spec}
+use Rattle.class_table.specs.Tables.{table_spec}
 use Rattle.step_data.specs.Steps.{then_of, question_of, answered_of, code_of, weight}
 
 -- what a plan comes to under a specification

@@ -2,14 +2,15 @@
 
 ghost use Rattle.std.specs.Prelude.{◌≡◌, IfOk};
 ghost use Rattle.vdm_meaning.specs.Tasks.{with_value};
-ghost use Rattle.step_data.specs.Tables.{table_spec};
+ghost use Rattle.class_table.specs.Tables.{table_spec};
 ghost use Rattle.step_data.specs.Parts.{flow_of};
 ghost use Rattle.step_data.specs.Steps.{code_of, use_of, then_of};
 
+use class_table::Table;
 use expr_steps::call::{call_on, ended};
 use expr_steps::expression::{operator_on, right_operand};
 use expr_steps::object::with_slot;
-use step_data::{Asking, Flow, Frame, Step, Table, Use};
+use step_data::{Asking, Flow, Frame, Step, Use};
 use stmt_steps::statement::{assigned, called, return_value, unless_returned};
 use vdm_kinds::{OutOfMemory, Place, RunFault};
 use vdm_values::{Slot, Value};

@@ -8,4 +8,3 @@ mod main_code;
 mod task;
 
 pub use machine::Machine;
-pub use step_data::Table;

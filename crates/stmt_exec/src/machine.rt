@@ -4,18 +4,19 @@ ghost use Rattle.std.specs.Prelude.{◌≡◌, ◌≢◌, ◌<◌, ◌≤◌, �
 ghost use Rattle.run_journal.specs.declared.answer.Answer.{Answer as AnswerView};
 ghost use Rattle.vdm_meaning.specs.Main.{asks, over as is_over, main_code};
 ghost use Rattle.vdm_tree.specs.View.{view_of};
-ghost use Rattle.step_data.specs.Tables.{table_spec};
+ghost use Rattle.class_table.specs.Tables.{table_spec};
 ghost use Rattle.step_data.specs.Steps.{busy, height};
 ghost use Rattle.stmt_exec.specs.Standing.{rest, rest_at, rest_weight, rank, load, stands_with, IsSpent};
 
 use crate::asking::{answered_of, question_of};
 use crate::frame::then_of;
 use crate::task::plan_of;
+use class_table::Table;
 use plans::take_unit;
 use run_journal::{Answer, Question};
 use std::alloc::Global;
 use std::mem;
-use step_data::{Asking, Frame, Step, Table, Task};
+use step_data::{Asking, Frame, Step, Task};
 use vdm_kinds::{OutOfMemory, Place, RunFault};
 use vdm_tree::Expr;
 use vdm_values::Slot;

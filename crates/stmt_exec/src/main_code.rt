@@ -8,7 +8,8 @@ ghost use Rattle.vdm_tree.specs.View.{view_of};
 ghost use Rattle.step_data.specs.Parts.{task_of};
 ghost use Rattle.step_data.specs.Steps.{code_of, after_io, height};
 
-use step_data::{Asking, Env, Frame, Step, Table, Task};
+use class_table::Table;
+use step_data::{Asking, Env, Frame, Step, Task};
 use vdm_tree::Expr;
 
 /// Behind the class object of `IO`: that of the text's class, where there is one, and then the expression.

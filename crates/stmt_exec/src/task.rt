@@ -2,14 +2,15 @@
 
 ghost use Rattle.std.specs.Prelude.{◌≡◌, IfOk};
 ghost use Rattle.vdm_meaning.specs.TaskPlans.{plan_of};
-ghost use Rattle.step_data.specs.Tables.{table_spec};
+ghost use Rattle.class_table.specs.Tables.{table_spec};
 ghost use Rattle.step_data.specs.Parts.{task_of};
 ghost use Rattle.step_data.specs.Steps.{code_of};
 
+use class_table::Table;
 use expr_steps::call::bare_call;
 use expr_steps::expression::expression;
 use std::alloc::Global;
-use step_data::{Step, Table, Task};
+use step_data::{Step, Task};
 use stmt_steps::statement::statement;
 use vdm_kinds::OutOfMemory;
 

@@ -7,12 +7,13 @@ ghost use Rattle.vdm_meaning.specs.Statements.{stmt_plan, assigned, write_found,
 ghost use Rattle.vdm_tree.specs.StmtView.{stmt_view, target_view, boxed_view};
 ghost use Rattle.vdm_tree.specs.ClassView.{variable_view};
 ghost use Rattle.vdm_tree.specs.declared.class_def.VarDef.{VarDef};
-ghost use Rattle.step_data.specs.Tables.{class_of};
+ghost use Rattle.class_table.specs.Tables.{class_of};
 ghost use Rattle.step_data.specs.Parts.{env_of, flow_of, statements_of};
 ghost use Rattle.step_data.specs.Steps.{code_of, height};
 
+use class_table::Members;
 use run_journal::Answer;
-use step_data::{Asking, Env, Flow, Frame, Members, Step, Task, Use, fits};
+use step_data::{Asking, Env, Flow, Frame, Step, Task, Use, fits, variable_ref};
 use vdm_kinds::{Place, RunFault};
 use vdm_tree::{Expr, Stmt, Target, VarDef};
 use vdm_values::{Slot, Value};
@@ -108,7 +109,7 @@ fn write_found<'t>(
     if !fits(variable.declared, &value) {
         return Step::Fail(RunFault::TypeFault, place);
     }
-    let var = members.variable_ref(variable);
+    let var = variable_ref(members, variable);
     Step::Ask(Asking::Write(me, var, value, place))
 }
 

@@ -7,7 +7,8 @@ ghost use Rattle.report_texts.specs.Values.{slot_text};
 
 use crate::value::push_value;
 use std::alloc::Global;
-use vdm_kinds::{Names, OutOfMemory};
+use vdm_kinds::OutOfMemory;
+use vdm_names::Names;
 use vdm_values::Slot;
 
 /// Appends the text of a slot: `?` where it is unset, else that of its value. A refusal leaves `out` as before.

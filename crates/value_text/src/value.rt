@@ -7,7 +7,8 @@ ghost use Rattle.report_texts.specs.Values.{value_text};
 
 use std::alloc::Global;
 use std::fmt::Write;
-use vdm_kinds::{Names, OutOfMemory};
+use vdm_kinds::OutOfMemory;
+use vdm_names::Names;
 use vdm_values::{Node, Value};
 
 /// Appends the text of a value, so far of a number: decimal, with a minus sign below 0. A refusal leaves `out` as before.

@@ -21,7 +21,8 @@ use crate::run::run;
 use first_reader::{SPEC_LIMIT, read_expression, read_specification};
 use run_journal::EntryList;
 use std::alloc::Global;
-use vdm_kinds::{Halt, Names, SpecFault};
+use vdm_kinds::{Halt, SpecFault};
+use vdm_names::Names;
 use vdm_outside::{Source, read_limited};
 use vdm_tree::{Expr, Spec};
 

@@ -37,7 +37,7 @@ pub fn run(alloc: Global, spec: &Spec, tree: &Expr) -> Finished
     requires expression { IsExpression (view_of tree.now) }
     ensures { RunsTo (spec_view spec.now) (view_of tree.now) result.journal result.end }
 {
-    let ran = plain_store::run(alloc, spec, tree, STEP_LIMIT);
+    let ran = plain_run::run(alloc, spec, tree, STEP_LIMIT);
     let end = if ran.is_whole {
         end_of(alloc, &ran.journal)
     } else {

@@ -15,7 +15,8 @@ use crate::report::Report;
 use log_printer::report_text;
 use run_journal::EntryList;
 use std::alloc::Global;
-use vdm_kinds::{Names, OutOfMemory};
+use vdm_kinds::OutOfMemory;
+use vdm_names::Names;
 use vdm_outside::{Sink, write_whole};
 
 /// What a report tells of a run beside its last line: its journal, over the names of the texts, where the log is asked for.

@@ -3,11 +3,9 @@
 
 mod access;
 mod halt;
-mod laws;
 mod limits;
 mod member;
 mod name;
-mod name_list;
 mod operator;
 mod part;
 mod place;
@@ -17,11 +15,9 @@ mod spec_kind;
 
 pub use access::{Access, Level};
 pub use halt::{Halt, OutOfMemory};
-pub use laws::{names_are_found, no_name_twice};
 pub use limits::Limits;
 pub use member::{OpRef, VarRef};
 pub use name::Name;
-pub use name_list::Names;
 pub use operator::Operator;
 pub use part::Part;
 pub use place::Place;

@@ -6,7 +6,7 @@ use crate::type_expr::TypeExpr;
 use vdm_kinds::{Access, Name, Place};
 
 /// An instance variable.
-#[derive(Drop)]
+#[derive(Debug, Drop)]
 pub struct VarDef {
     pub access: Access,
     pub name: Name,
@@ -20,7 +20,7 @@ pub struct VarDef {
 }
 
 /// An operation, so far without parameters.
-#[derive(Drop)]
+#[derive(Debug, Drop)]
 pub struct OpDef {
     pub access: Access,
     pub name: Name,
@@ -34,7 +34,7 @@ pub struct OpDef {
 }
 
 /// A block of definitions, at the place of its first word.
-#[derive(Drop)]
+#[derive(Debug, Drop)]
 pub enum Block {
     /// Instance variables, in text order.
     Variables(Vec<VarDef>, Place),
@@ -43,7 +43,7 @@ pub enum Block {
 }
 
 /// A class.
-#[derive(Drop)]
+#[derive(Debug, Drop)]
 pub struct ClassDef {
     pub name: Name,
     /// Where its first name stands.

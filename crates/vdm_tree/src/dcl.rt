@@ -5,7 +5,7 @@ use crate::type_expr::TypeExpr;
 use vdm_kinds::{Name, Place};
 
 /// A local variable of a block.
-#[derive(Drop)]
+#[derive(Debug, Drop)]
 pub struct Dcl {
     pub name: Name,
     /// Where its name stands.

@@ -8,7 +8,7 @@ use std::alloc::Global;
 use vdm_kinds::{Name, Operator, OutOfMemory, Place};
 
 /// An expression. A place is where a fault of the node stands.
-#[derive(Drop)]
+#[derive(Debug, Drop)]
 pub enum Expr {
     /// A whole literal; its place is its first character.
     Whole(i128, Place),

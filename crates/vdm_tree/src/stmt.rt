@@ -12,7 +12,7 @@ use std::alloc::Global;
 use vdm_kinds::{OutOfMemory, Place};
 
 /// A statement, at the place of its first token.
-#[derive(Drop)]
+#[derive(Debug, Drop)]
 pub enum Stmt {
     /// An assignment of a value to a target.
     Assign(Target, Box<Expr>, Place),

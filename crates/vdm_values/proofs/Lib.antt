@@ -1,4 +1,2 @@
 pub mod Lists
-pub mod Neighbours
 pub mod Parts
-pub mod Sorted

@@ -1,4 +1,4 @@
-use Rattle.step_data.specs.Tables.{class_of}
+use Rattle.class_table.specs.Tables.{class_of}
 use Rattle.expr_steps.proofs.Applying.{no_arguments, new_with_arguments}
 use Rattle.expr_steps.proofs.object.new_object.Goals as goal
 

@@ -1,7 +1,7 @@
 use Rattle.std.proofs.Common.{ap, refl, ◌∙◌}
 use Rattle.std.specs.Vec.Iter.{into_iter_items}
 use Rattle.vdm_meaning.specs.Main.{main_code}
-use Rattle.stmt_exec.specs.Tables.{table_spec}
+use Rattle.class_table.specs.Tables.{table_spec}
 use Rattle.vdm_tree.specs.View.{view_of}
 use Rattle.stmt_exec.specs.Standing.{rest}
 use Rattle.plain_meaning.proofs.Staying.{first-stands, first-stays, over-now, stays-behind, taken-on}

@@ -3,7 +3,7 @@ use Rattle.std.specs.Vec.Iter.{into_iter_items}
 use Rattle.plain_meaning.proofs.Staying.{StaysOver}
 use Rattle.stmt_exec.specs.Standing.{rest}
 use Rattle.vdm_meaning.specs.Main.{main_code}
-use Rattle.stmt_exec.specs.Tables.{table_spec}
+use Rattle.class_table.specs.Tables.{table_spec}
 use Rattle.vdm_tree.specs.View.{view_of}
 use Rattle.plain_meaning.proofs.standing.standing_after.Given as goal
 

@@ -1,6 +1,6 @@
 use Rattle.std.proofs.Common.{◌≡◌, drop}
 use Rattle.vdm_meaning.specs.Types.{all_fit}
-use Rattle.step_data.specs.Tables.{variables_at}
+use Rattle.class_table.specs.Tables.{variables_at}
 use Rattle.step_data.proofs.types.all_fit.Given as goal
 
 -- the test of the rest is the test of the whole

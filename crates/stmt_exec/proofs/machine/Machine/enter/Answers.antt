@@ -1,4 +1,4 @@
-use Rattle.step_data.specs.Tables.{table_spec}
+use Rattle.class_table.specs.Tables.{table_spec}
 use Rattle.stmt_exec.proofs.Resting.{entered, spent_fails}
 use Rattle.stmt_exec.proofs.machine.Machine.enter.Goals as goal
 

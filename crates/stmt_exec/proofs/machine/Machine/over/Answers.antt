@@ -1,5 +1,5 @@
 use Rattle.stmt_exec.proofs.Resting.{rest-over}
-use Rattle.step_data.specs.Tables.{table_spec}
+use Rattle.class_table.specs.Tables.{table_spec}
 use Rattle.stmt_exec.proofs.machine.Machine.over.Goals as goal
 
 pub returns-in_default : goal.returns-in_default

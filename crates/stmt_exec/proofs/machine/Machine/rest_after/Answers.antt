@@ -1,4 +1,4 @@
-use Rattle.step_data.specs.Tables.{table_spec}
+use Rattle.class_table.specs.Tables.{table_spec}
 use Rattle.stmt_exec.proofs.Resting.{failed}
 use Rattle.stmt_exec.proofs.machine.Machine.rest_after.Goals as goal
 

@@ -1,6 +1,6 @@
 use Rattle.std.proofs.Common.{◌-◌, ◌++◌, [], take, ap, sym, ◌∙◌}
 use Rattle.step_data.specs.declared.step.Step.TheVariants.{Fail, Ask}
-use Rattle.step_data.specs.Tables.{table_spec}
+use Rattle.class_table.specs.Tables.{table_spec}
 use Rattle.step_data.specs.Steps.{height}
 use Rattle.stmt_exec.specs.Standing.{stands_with, load}
 use Rattle.stmt_exec.proofs.Running.{stands-step, stands-end, popped, popped-low, entered-low}

@@ -1,0 +1,6 @@
+//! A run from its beginning to its end: the questions of main's machine, answered from the list of entries.
+#![tactic(auto)]
+
+mod ran;
+
+pub use ran::{Ran, run};

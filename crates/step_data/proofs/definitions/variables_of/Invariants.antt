@@ -1,7 +1,0 @@
-use Rattle.std.proofs.Common.{◌≡◌, flat_map, take}
-use Rattle.step_data.specs.Definitions.{at, variables_in}
-use Rattle.step_data.proofs.definitions.variables_of.Given as goal
-
--- those of the blocks so far
-abbrev pub invariant-loop-block : goal.invariant-loop-block
-invariant-loop-block l = at l.variables.items ≡ flat_map variables_in (take l.block-index l.class.blocks.items)

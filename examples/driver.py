@@ -1,0 +1,437 @@
+"""What the driver of crates/rows is asked, in words, and what it answers.
+
+The rows of `rows/*.rows` are written to be read. The driver takes less: a line of words, which it obeys one after the
+other. `words_for` puts a request of a row into words, and `notation_of`, of `shown.py`, puts an answer back.
+
+**The notation of requests.** A request is a word and what the word asks for. REQUESTS at the end has these words, and
+the function of each begins with how its request is written. What it answers says the module of the driver that does.
+Parts have ` %| ` between each two, and behind ` %|` at the end stands an empty part. In a text `%41` stands for a byte
+by its two hexadecimal digits. Entries, questions and answers have `; ` between each two.
+
+    name        a word of letters, digits and _; or #7, the name of number 7
+    value       one of: nil, true, false, -5, 'a', char(0), <Red>, C#3 (object 3 of class C), mk_token(1), mk_(1, 2),
+                mk_C`T(1), [1, 2], {1, 2}, {1 |-> 2}, {|->}. A set and a map keep their parts as they are written
+    slot        ?, which is unset, or a value
+    thread      main, clock, t3 (of object 3) or r3.0 (a release of it, before which none came)
+    entry       a thread, the number of an object, and a deed, as in main 2 read C`x = 1
+    question    the number of an object, and the deed that it leads to, in which what answers it may be left out, as in
+                2 read C`x
+    answer      one of: done, object 2, slot ?, refused, inner 103, host = 1, host refused, ticks 41
+    SPEC        the text of a specification, or none; behind `unset ` the last variable has no value at first,
+                and behind `apart ` each variable stands in a block of its own, behind an empty block of operations
+    EXPR        the text of an expression, or behind `tree ` its tree
+
+These are the deeds, as the log writes them:
+
+    class C [1, ?]          new C [1, ?]            read C`x = 1            write C`x = 1, C`y = 2
+    req C`f/0               act C`f/0               fin C`f/0               write C`x = 1 refused 105
+    start                   start refused 120       print [1, 2]            act-fault C`f/0 103
+    host C`f/1 (1) = 2      host C`f/1 (1) refused  time 41                 tick
+    release 0               end                     end 1                   fail 101 expr 1:41
+                                                                            fail 113 1 spec 6:36
+
+And these are the nodes of a tree, which stand behind their parts, with one blank between each two:
+
+    7@1:1                   a literal at its place
+    name n@1:1              a name
+    +@1:3                   the sum of the two trees before it
+    apply 1@1:2             an application to the one argument right before it, of the tree before that
+    new C@1:5 0@1:1         a new object, with so many arguments before it; the name of its class stands at 1:5
+    select f@1:10@1:9       the member of the tree before it; its name stands at 1:10
+
+**Words.** They have one blank between each two. The first says what is asked for, then come its own operands, and then
+instructions, each with its operands. The driver keeps what it has made so far, of each kind by itself, and an
+instruction takes the last of it and leaves what it makes. At the end there is what the request needs, in the order of
+the notation. Each operand is one word, or several, as follows:
+
+    N, K, INT      a decimal number; INT may have a sign and has 128 bits, K says of how many an instruction takes
+    TEXT           a dot and the bytes of a text, of which all but the signs of ASCII without % are written as %0A
+    NAME           which of the names that the line has declared, counted from 0
+    PART           spec or expr
+    SPOT, PLACE    LINE COLUMN, PART LINE COLUMN
+    THREAD         main, clock, of N for t3, or release N N for r3.0
+    VAR, OP        NAME NAME, NAME NAME N: the class, the variable or the operation, and how many parameters that has
+
+These are the instructions:
+
+    name TEXT   number N               declares the name of this text, which the driver adds where it is new, or number
+    nil   true   false   int INT       a value
+    char N   quote NAME                a value: the character of this number, the quote of this name
+    object N NAME                      a value: object N of this class
+    token                              the token of the last value
+    tuple K   seq K   set K            of the last K values, in order
+    map K                              of the last K values, each of which is a tuple of a key and its value
+    record NAME NAME K                 of the last K values; the names of its class and its own
+    unset   held                       a slot: one without a value, one with the last value
+    write VAR                          the variable gets the last value
+    deed class NAME K   deed new NAME K              a deed, with the last K slots
+    deed req OP   deed act OP   deed fin OP
+    deed act-fault OP N                N is the number of the fault
+    deed read VAR                      with the last slot
+    deed write K N                     of the last K writes; N is 1 where they were refused, or 0
+    deed start N                       N is 1 where it was refused, or 0
+    deed print K                       of the last K values
+    deed host OP K                     of the last K values, with the last answer, which is of a host function
+    deed time N   deed tick   deed release N
+    deed end                           with the last slot
+    deed fail N PLACE                  of fault N, with the last slot
+    entry THREAD N                     the last deed, by this thread on object N
+    ask N                              the question that the last deed on object N answers
+    answer done   answer object N   answer refused   answer inner N   answer ticks N
+    answer slot                        with the last slot
+    answer given   answer host-refused   of a host function: the last value, or none
+    spec TEXT                          reads a specification, which has to be one
+    no-initial                         the last variable of its first block has no value at first
+    blocks-apart                       each variable gets a block of its own, behind an empty block of operations
+    expr TEXT                          reads an expression behind the specification
+    tree whole INT SPOT   tree name NAME SPOT
+    tree plus SPOT                     of the last two trees
+    tree apply K SPOT                  of the tree before the last K, with these as arguments
+    tree new NAME SPOT K SPOT          of the last K trees; the first spot is that of the name
+    tree select NAME SPOT SPOT         of the last tree; the first spot is that of the name
+
+A line declares a name once, where the notation first has it, and so behind a specification or expression that comes
+before. `held` alone declares its two names once more, at the end, so that it is told which they are.
+
+**Answers.** They are as in the rows, but for what Rust's `{:?}` shows: a value, a slot, an entry, an answer, a place, a
+thread, a tree or a specification, between two tabs. No tab stands elsewhere. A name is shown by its number, as
+`Name(5)`. So an answer to instructions, and to `spec` and `expr`, has a last tab, and behind it the texts of all names
+in order, each behind a blank: there are names where the tabs make an even number of pieces. A line that the driver
+cannot read is answered by `unreadable`.
+"""
+import re
+
+from notation import QUOTED, BadRequest, Line, Reader, read, read_each, word_of
+from shown import notation_of
+
+__all__ = ["BadRequest", "notation_of", "words_for"]
+
+MANY = 1_000_000
+# What changes a specification once it is read, by the word before its text.
+CHANGES = {"unset": "no-initial", "apart": "blocks-apart"}
+STREAMS = re.compile(r"([0-9]+) (-|[0-9,]+), ([0-9]+) ([0-9]+) (-|[0-9,]+)")
+
+
+def words_for(request):
+    """Returns the words of a request, as a line without its line feed."""
+    word, _, asked = request.partition(" ")
+    if word not in REQUESTS:
+        raise BadRequest(f"no request begins with '{word[:QUOTED]}'")
+    line = Line(word)
+    REQUESTS[word](line, asked)
+    return " ".join(line.words)
+
+
+def parts_of(asked, least, most):
+    """Returns the parts of what is asked for. Behind ` %|` at the end stands an empty one."""
+    parts = asked.removesuffix(" %|").split(" %| ") + [""] * asked.endswith(" %|")
+    if not least <= len(parts) <= most:
+        raise BadRequest(f"a request of this kind has not {len(parts)} parts")
+    return parts
+
+
+def text_or_none(text):
+    return "" if text == "none" else text
+
+
+# Names, numbers and texts.
+
+
+def number(line, asked):
+    """take N, refusal N, fault N"""
+    line.put(read(line, asked, Reader.number))
+
+
+def names(line, asked):
+    """names WORD WORD .."""
+    line.put(*(word_of(read(line, it, Reader.word)) for it in asked.split(" ")))
+
+
+def name(line, asked):
+    """name N WORD WORD .."""
+    index, _, words = asked.partition(" ")
+    number(line, index)
+    names(line, words)
+
+
+def lexed(line, asked):
+    """lex PART TEXT, places PART TEXT"""
+    part, _, text = asked.partition(" ")
+    line.put(read(line, part, Reader.part), word_of(text))
+
+
+def tokens(line, asked):
+    """tokens PART TEXT, tokens PART TEXT %| TEXT, spots and token-names likewise"""
+    text, *others = parts_of(asked, 1, 2)
+    lexed(line, text)
+    line.put(*map(word_of, others))
+
+
+def text(line, asked):
+    """spec TEXT, accepts TEXT"""
+    line.put(word_of(asked))
+
+
+def main(line, asked):
+    """main PIECE FAILS, ROOM PIECE FAILS %| SPEC %| WORD %| .., where SPEC and WORD are texts or none"""
+    streams, *texts = parts_of(asked, 2, MANY)
+    found = STREAMS.fullmatch(streams)
+    if not found:
+        raise BadRequest(f"'{streams}' are no streams, as in '4096 -, 1000 64 2,3'")
+    line.put(*found.groups(), *(word_of(text_or_none(it)) for it in texts))
+
+
+def time(line, asked):
+    """time set KIND N, time lex KIND N"""
+    line.put(*asked.split(" "))
+
+
+# Values.
+
+
+def values(line, asked):
+    """order V %| V, rising V %| V .., apart V %| V .., same V %| V, taken V, size V, value V"""
+    for it in parts_of(asked, 1, MANY):
+        read(line, it, Reader.value)
+
+
+def contents(line, asked, kind):
+    """Puts the values of one value, which has to be of this kind: all its words but those of its own instruction."""
+    read(line, asked, Reader.value)
+    if kind not in line.words[-2:-1]:
+        raise BadRequest(f"'{asked[:QUOTED]}' is a value of another kind than this request wants")
+    del line.words[-2:]
+
+
+def items(line, asked):
+    """list, set, set-size and insertion [V, ..], map, map-size and insertion-of-pairs [mk_(V, V), ..]"""
+    contents(line, asked, "seq")
+
+
+def pairs(line, asked):
+    """pairs {V |-> V, ..}"""
+    contents(line, asked, "map")
+
+
+def slots(line, asked):
+    """slots [S, ..]"""
+    read(line, asked, Reader.slots)
+
+
+def slot(line, asked):
+    """slot TEXT %| S %| S .."""
+    before, *others = parts_of(asked, 2, MANY)
+    line.put(word_of(before))
+    for it in others:
+        read(line, it, Reader.slot)
+
+
+# Entries, questions and answers.
+
+
+def entries(line, asked):
+    """entries ENTRIES, finish ENTRIES"""
+    read_each(line, asked, Reader.entry)
+
+
+def answers(line, asked):
+    """answers ANSWERS"""
+    read_each(line, asked, Reader.answer)
+
+
+def made(line, asked):
+    """made THREAD %| QUESTION %| ANSWER"""
+    thread, question, answer = parts_of(asked, 3, 3)
+    line.put(*read(line, thread, Reader.thread))
+    read(line, question, Reader.question)
+    read(line, answer, Reader.answer)
+
+
+def entries_of(line, asked):
+    """of N %| ENTRIES, of THREAD %| ENTRIES"""
+    whose, others = parts_of(asked, 2, 2)
+    if whose[:1].isalpha():
+        line.words = ["of-thread", *read(line, whose, Reader.thread)]
+    else:
+        line.words = ["of-object", read(line, whose, Reader.number)]
+    entries(line, others)
+
+
+def threads(line, asked):
+    """is THREAD %| THREAD"""
+    for it in parts_of(asked, 2, 2):
+        line.put(*read(line, it, Reader.thread))
+
+
+def thread(line, asked):
+    """own THREAD"""
+    line.put(*read(line, asked, Reader.thread))
+
+
+def same_entry(line, asked):
+    """same-entry ENTRY %| ENTRY"""
+    for it in parts_of(asked, 2, 2):
+        read(line, it, Reader.entry)
+
+
+def same_question(line, asked):
+    """same-question QUESTION %| QUESTION"""
+    for it in parts_of(asked, 2, 2):
+        read(line, it, Reader.question)
+
+
+def same_deed(line, asked):
+    """same-deed N DEED %| N DEED; the objects are left out"""
+    for it in parts_of(asked, 2, 2):
+        read(line, it, Reader.object_and_deed)
+
+
+def log_line(line, asked):
+    """line K ENTRY"""
+    count, _, entry = asked.partition(" ")
+    number(line, count)
+    read(line, entry, Reader.entry)
+
+
+def report(line, asked):
+    """report TEXT %| ENTRIES, report TEXT %| no log %| ENTRIES"""
+    last, *log, others = parts_of(asked, 2, 3)
+    if log not in ([], ["no log"]):
+        raise BadRequest(f"'{log[0][:QUOTED]}' stands where only 'no log' may")
+    line.put(word_of(last), "0" if log else "1")
+    entries(line, others)
+
+
+# Specifications, expressions and runs.
+
+
+def specification(line, text):
+    changes = CHANGES.get(text.partition(" ")[0])
+    if changes:
+        line.put("spec", word_of(text.partition(" ")[2]), changes)
+    else:
+        line.put("spec", word_of(text_or_none(text)))
+
+
+def expression(line, text):
+    if text.startswith("tree "):
+        tree(line, text.removeprefix("tree "))
+    else:
+        line.put("expr", word_of(text))
+
+
+def tree(line, asked):
+    """tree TREE"""
+    read(line, asked, Reader.tree)
+
+
+def expr(line, asked):
+    """expr SPEC %| TEXT"""
+    spec, text = parts_of(asked, 2, 2)
+    line.put(word_of(text))
+    specification(line, spec)
+
+
+def terms(line, asked):
+    """terms SPEC %| EXPR"""
+    spec, text = parts_of(asked, 2, 2)
+    specification(line, spec)
+    expression(line, text)
+
+
+def case(line, units, spec, text):
+    number(line, units)
+    specification(line, spec)
+    expression(line, text)
+
+
+def run(line, asked):
+    """run UNITS %| SPEC %| EXPR, calls UNITS %| SPEC %| EXPR"""
+    case(line, *parts_of(asked, 3, 3))
+
+
+def judge(line, asked):
+    """judge UNITS %| SPEC %| EXPR %| ENTRIES"""
+    *before, others = parts_of(asked, 4, 4)
+    case(line, *before)
+    entries(line, others)
+
+
+def play(line, asked):
+    """play UNITS %| SPEC %| EXPR %| ANSWERS"""
+    *before, others = parts_of(asked, 4, 4)
+    case(line, *before)
+    answers(line, others)
+
+
+def asks(line, asked):
+    """asks UNITS %| SPEC %| EXPR %| ANSWERS %| ANSWER"""
+    *before, others, last = parts_of(asked, 5, 5)
+    case(line, *before)
+    answers(line, others)
+    read(line, last, Reader.answer)
+
+
+def ordered(line, asked):
+    """ordered SPEC %| ENTRIES"""
+    spec, others = parts_of(asked, 2, 2)
+    specification(line, spec)
+    entries(line, others)
+
+
+def store(line, asked):
+    """store SPEC %| QUESTION; QUESTION .."""
+    spec, questions = parts_of(asked, 2, 2)
+    specification(line, spec)
+    read_each(line, questions, Reader.question)
+
+
+def held(line, asked):
+    """held SPEC %| N VARIABLE, held SPEC %| N VARIABLE %| ENTRIES"""
+    spec, whose, *others = parts_of(asked, 2, 3)
+    index, _, variable = whose.partition(" ")
+    number(line, index)
+    specification(line, spec)
+    read(line, variable, Reader.variable)
+    for it in others:
+        entries(line, it)
+    for it in variable.split("`"):
+        line.declare(it)
+
+
+REQUESTS = {
+    **dict.fromkeys(["take", "refusal", "fault"], number),
+    "names": names,
+    "name": name,
+    **dict.fromkeys(["lex", "places"], lexed),
+    **dict.fromkeys(["tokens", "spots", "token-names"], tokens),
+    **dict.fromkeys(["spec", "accepts"], text),
+    "main": main,
+    "time": time,
+    **dict.fromkeys(["order", "rising", "apart", "same", "taken", "size", "value"], values),
+    **dict.fromkeys(["list", "set", "set-size", "insertion", "map", "map-size", "insertion-of-pairs"], items),
+    "pairs": pairs,
+    "slots": slots,
+    "slot": slot,
+    **dict.fromkeys(["entries", "finish"], entries),
+    "answers": answers,
+    "made": made,
+    "of": entries_of,
+    "is": threads,
+    "own": thread,
+    "same-entry": same_entry,
+    "same-question": same_question,
+    "same-deed": same_deed,
+    "line": log_line,
+    "report": report,
+    "tree": tree,
+    "expr": expr,
+    "terms": terms,
+    **dict.fromkeys(["run", "calls"], run),
+    "judge": judge,
+    "play": play,
+    "asks": asks,
+    "ordered": ordered,
+    "store": store,
+    "held": held,
+}
