@@ -7,7 +7,7 @@ use row_values::ValueDesk;
 use row_words::{Read, Words, popped};
 use run_journal::{Answer, Deed, Entry, EntryList, Question, Write};
 use std::alloc::Global;
-use vdm_kinds::{OpRef, VarRef};
+use vdm_kinds::{OpRef, OutOfMemory, VarRef};
 
 /// What words made so far, the last of each kind last.
 #[derive(Drop)]
@@ -21,20 +21,8 @@ pub struct JournalDesk {
 }
 
 impl JournalDesk {
-    /// What the rest of the words makes.
-    pub fn by(alloc: Global, words: &mut Words<'_>) -> Read<JournalDesk> {
-        let mut desk = JournalDesk::new(alloc)?;
-        for _word in 0..words.bound() {
-            if words.is_over() {
-                break;
-            }
-            desk.follow(alloc, words.word(), words)?;
-        }
-        Ok(desk)
-    }
-
     /// Nothing is made so far.
-    pub fn new(alloc: Global) -> Read<JournalDesk> {
+    pub fn new(alloc: Global) -> Result<JournalDesk, OutOfMemory> {
         Ok(JournalDesk {
             values: ValueDesk::new(alloc)?,
             writes: Vec::new(alloc),
@@ -43,6 +31,28 @@ impl JournalDesk {
             questions: Vec::new(alloc),
             answers: Vec::new(alloc),
         })
+    }
+
+    /// Begins again, with nothing made.
+    pub fn clear(&mut self, alloc: Global) -> Result<(), OutOfMemory> {
+        self.values.clear(alloc)?;
+        self.writes.clear();
+        self.deeds.clear();
+        self.entries = EntryList::new(alloc);
+        self.questions.clear();
+        self.answers.clear();
+        Ok(())
+    }
+
+    /// Does what all further words say.
+    pub fn read(&mut self, alloc: Global, words: &mut Words<'_>) -> Read<()> {
+        for _word in 0..words.bound() {
+            if words.is_over() {
+                break;
+            }
+            self.follow(alloc, words.word(), words)?;
+        }
+        Ok(())
     }
 
     /// Does what a word says.

@@ -1,6 +1,7 @@
 //! Answers of rows on threads and the entries of a journal.
 //!
-//! A request is a word and the words behind it; the head of each module says which words it answers.
+//! A request is a word and the words behind it; the head of each module says which words it answers. What the words make
+//! stands on a desk that the program owns and lends.
 #![tactic(auto)]
 
 mod answers;
@@ -16,39 +17,55 @@ use std::alloc::Global;
 use threads::thread_by;
 
 /// Appends the answer to a request. A word that is none is unreadable.
-pub fn answer(alloc: Global, out: &mut String, word: &str, words: &mut Words<'_>) -> Read<()> {
+pub fn answer(
+    alloc: Global,
+    out: &mut String,
+    word: &str,
+    words: &mut Words<'_>,
+    desk: &mut JournalDesk,
+) -> Read<()> {
     match word {
-        "is" | "own" => journals::on_threads(out, word, words),
-        "made" => made(alloc, out, words),
-        "of-object" => on_object(alloc, out, words),
-        "of-thread" => by_thread(alloc, out, words),
-        _ => on_desk(alloc, out, word, words),
+        "is" | "own" => return journals::on_threads(out, word, words),
+        "made" => made(alloc, out, words, desk)?,
+        "of-object" => on_object(alloc, out, words, desk)?,
+        "of-thread" => by_thread(alloc, out, words, desk)?,
+        _ => {
+            desk.read(alloc, words)?;
+            journals::answer(alloc, out, word, desk)?;
+        }
     }
-}
-
-fn on_desk(alloc: Global, out: &mut String, word: &str, words: &mut Words<'_>) -> Read<()> {
-    let mut desk = JournalDesk::by(alloc, words)?;
-    journals::answer(alloc, out, word, &mut desk)?;
     Ok(push_names(out, &desk.values.names)?)
 }
 
-fn made(alloc: Global, out: &mut String, words: &mut Words<'_>) -> Read<()> {
+fn made(
+    alloc: Global,
+    out: &mut String,
+    words: &mut Words<'_>,
+    desk: &mut JournalDesk,
+) -> Read<()> {
     let thread = thread_by(words)?;
-    let mut desk = JournalDesk::by(alloc, words)?;
-    journals::made(out, thread, &mut desk)?;
-    Ok(push_names(out, &desk.values.names)?)
+    desk.read(alloc, words)?;
+    journals::made(out, thread, desk)
 }
 
-fn on_object(alloc: Global, out: &mut String, words: &mut Words<'_>) -> Read<()> {
+fn on_object(
+    alloc: Global,
+    out: &mut String,
+    words: &mut Words<'_>,
+    desk: &mut JournalDesk,
+) -> Read<()> {
     let object = words.number()?;
-    let desk = JournalDesk::by(alloc, words)?;
-    journals::on_object(out, object, &desk.entries)?;
-    Ok(push_names(out, &desk.values.names)?)
+    desk.read(alloc, words)?;
+    journals::on_object(out, object, &desk.entries)
 }
 
-fn by_thread(alloc: Global, out: &mut String, words: &mut Words<'_>) -> Read<()> {
+fn by_thread(
+    alloc: Global,
+    out: &mut String,
+    words: &mut Words<'_>,
+    desk: &mut JournalDesk,
+) -> Read<()> {
     let thread = thread_by(words)?;
-    let desk = JournalDesk::by(alloc, words)?;
-    journals::by_thread(out, thread, &desk.entries)?;
-    Ok(push_names(out, &desk.values.names)?)
+    desk.read(alloc, words)?;
+    journals::by_thread(out, thread, &desk.entries)
 }

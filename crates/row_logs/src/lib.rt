@@ -16,40 +16,70 @@ pub fn answer(
     out: &mut String,
     word: &str,
     words: &mut Words<'_>,
+    desk: &mut JournalDesk,
 ) -> Option<Read<()>> {
     match word {
-        "value" => Some(values(alloc, out, words)),
-        "slot" => Some(slots(alloc, out, words)),
-        "line" => Some(line(alloc, out, words)),
-        "report" => Some(report(alloc, out, words)),
+        "value" | "slot" | "line" | "report" => Some(answer_by(alloc, out, word, words, desk)),
         _ => None,
     }
 }
 
-fn values(alloc: Global, out: &mut String, words: &mut Words<'_>) -> Read<()> {
-    let desk = JournalDesk::by(alloc, words)?;
-    logs::values(alloc, out, &desk)?;
+fn answer_by(
+    alloc: Global,
+    out: &mut String,
+    word: &str,
+    words: &mut Words<'_>,
+    desk: &mut JournalDesk,
+) -> Read<()> {
+    match word {
+        "value" => values(alloc, out, words, desk)?,
+        "slot" => slots(alloc, out, words, desk)?,
+        "line" => line(alloc, out, words, desk)?,
+        _ => report(alloc, out, words, desk)?,
+    }
     Ok(push_names(out, &desk.values.names)?)
 }
 
-fn slots(alloc: Global, out: &mut String, words: &mut Words<'_>) -> Read<()> {
+fn values(
+    alloc: Global,
+    out: &mut String,
+    words: &mut Words<'_>,
+    desk: &mut JournalDesk,
+) -> Read<()> {
+    desk.read(alloc, words)?;
+    logs::values(alloc, out, desk)
+}
+
+fn slots(
+    alloc: Global,
+    out: &mut String,
+    words: &mut Words<'_>,
+    desk: &mut JournalDesk,
+) -> Read<()> {
     let before = words.text(alloc)?;
-    let desk = JournalDesk::by(alloc, words)?;
-    logs::slots(alloc, out, before, &desk)?;
-    Ok(push_names(out, &desk.values.names)?)
+    desk.read(alloc, words)?;
+    logs::slots(alloc, out, before, desk)
 }
 
-fn line(alloc: Global, out: &mut String, words: &mut Words<'_>) -> Read<()> {
+fn line(
+    alloc: Global,
+    out: &mut String,
+    words: &mut Words<'_>,
+    desk: &mut JournalDesk,
+) -> Read<()> {
     let k = words.whole()?;
-    let desk = JournalDesk::by(alloc, words)?;
-    logs::line(alloc, out, k, &desk)?;
-    Ok(push_names(out, &desk.values.names)?)
+    desk.read(alloc, words)?;
+    logs::line(alloc, out, k, desk)
 }
 
-fn report(alloc: Global, out: &mut String, words: &mut Words<'_>) -> Read<()> {
+fn report(
+    alloc: Global,
+    out: &mut String,
+    words: &mut Words<'_>,
+    desk: &mut JournalDesk,
+) -> Read<()> {
     let last = words.text(alloc)?;
     let has_log = words.number()? == 1;
-    let desk = JournalDesk::by(alloc, words)?;
-    logs::report(alloc, out, &last, has_log, &desk)?;
-    Ok(push_names(out, &desk.values.names)?)
+    desk.read(alloc, words)?;
+    logs::report(alloc, out, &last, has_log, desk)
 }

@@ -8,7 +8,7 @@ use row_journals::JournalDesk;
 use row_words::{Read, Unreadable, Words};
 use std::alloc::Global;
 use std::mem;
-use vdm_kinds::{Halt, SpecFault};
+use vdm_kinds::{Halt, OutOfMemory, SpecFault};
 use vdm_names::Names;
 use vdm_tree::{Block, ClassDef, Expr, Spec};
 
@@ -24,22 +24,34 @@ pub struct RunDesk {
 }
 
 impl RunDesk {
-    /// What the rest of the words makes.
-    pub fn by(alloc: Global, words: &mut Words<'_>) -> Read<RunDesk> {
-        let mut desk = RunDesk {
+    /// Nothing is made so far.
+    pub fn new(alloc: Global) -> Result<RunDesk, OutOfMemory> {
+        Ok(RunDesk {
             journal: JournalDesk::new(alloc)?,
             spec: Spec {
                 classes: Vec::new(alloc),
             },
             trees: Vec::new(alloc),
-        };
+        })
+    }
+
+    /// Begins again, with nothing made.
+    pub fn clear(&mut self, alloc: Global) -> Result<(), OutOfMemory> {
+        self.journal.clear(alloc)?;
+        self.spec.classes.clear();
+        self.trees.clear();
+        Ok(())
+    }
+
+    /// Does what all further words say.
+    pub fn read(&mut self, alloc: Global, words: &mut Words<'_>) -> Read<()> {
         for _word in 0..words.bound() {
             if words.is_over() {
                 break;
             }
-            desk.follow(alloc, words.word(), words)?;
+            self.follow(alloc, words.word(), words)?;
         }
-        Ok(desk)
+        Ok(())
     }
 
     fn follow(&mut self, alloc: Global, word: &str, words: &mut Words<'_>) -> Read<()> {

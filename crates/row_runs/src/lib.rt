@@ -18,13 +18,14 @@ pub fn answer(
     out: &mut String,
     word: &str,
     words: &mut Words<'_>,
+    desk: &mut RunDesk,
 ) -> Option<Read<()>> {
     match word {
         "tokens" | "spots" | "token-names" => Some(tokens::answer(alloc, out, word, words)),
         "tree" | "spec" | "accepts" | "expr" | "terms" => Some(trees::answer(
-            alloc, out, word, words,
+            alloc, out, word, words, desk,
         )),
-        "store" | "held" => Some(stores::answer(alloc, out, word, words)),
+        "store" | "held" => Some(stores::answer(alloc, out, word, words, desk)),
         _ => None,
     }
 }

@@ -16,16 +16,20 @@ pub(crate) fn answer(
     out: &mut String,
     word: &str,
     words: &mut Words<'_>,
+    desk: &mut RunDesk,
 ) -> Read<()> {
     if word == "store" {
-        store(alloc, out, words)
+        desk.read(alloc, words)?;
+        store(alloc, out, desk)?;
     } else {
-        held(alloc, out, words)
+        let object = words.number()?;
+        desk.read(alloc, words)?;
+        held(alloc, out, object, desk)?;
     }
+    Ok(push_names(out, &desk.journal.values.names)?)
 }
 
-fn store(alloc: Global, out: &mut String, words: &mut Words<'_>) -> Read<()> {
-    let mut desk = RunDesk::by(alloc, words)?;
+fn store(alloc: Global, out: &mut String, desk: &mut RunDesk) -> Read<()> {
     let questions = desk.journal.questions.split_off(0)?;
     let mut store = Store::new(alloc);
     for question in questions {
@@ -33,8 +37,7 @@ fn store(alloc: Global, out: &mut String, words: &mut Words<'_>) -> Read<()> {
         out.push_str("; ")?;
     }
     out.push_str("entries")?;
-    push_entries(out, store.entries())?;
-    Ok(push_names(out, &desk.journal.values.names)?)
+    push_entries(out, store.entries())
 }
 
 fn push_answered(
@@ -51,14 +54,11 @@ fn push_answered(
     Ok(push_shown(out, &answer)?)
 }
 
-fn held(alloc: Global, out: &mut String, words: &mut Words<'_>) -> Read<()> {
-    let object = words.number()?;
-    let desk = RunDesk::by(alloc, words)?;
+fn held(alloc: Global, out: &mut String, object: u32, desk: &RunDesk) -> Read<()> {
     let (class, name) = desk.journal.values.last_names()?;
     let variable = VarRef { class, name };
     match state_of(alloc, &desk.spec, &desk.journal.entries, object, variable)? {
-        Some(slot) => push_shown(out, &slot)?,
-        None => out.push_str("none")?,
+        Some(slot) => Ok(push_shown(out, &slot)?),
+        None => Ok(out.push_str("none")?),
     }
-    Ok(push_names(out, &desk.journal.values.names)?)
 }

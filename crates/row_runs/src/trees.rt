@@ -15,13 +15,18 @@ pub(crate) fn answer(
     out: &mut String,
     word: &str,
     words: &mut Words<'_>,
+    desk: &mut RunDesk,
 ) -> Read<()> {
     match word {
-        "spec" => spec(alloc, out, &words.text(alloc)?),
-        "accepts" => accepts(alloc, out, &words.text(alloc)?),
-        "expr" => expression(alloc, out, words),
-        _ => on_tree(alloc, out, word, words),
+        "spec" => return spec(alloc, out, &words.text(alloc)?),
+        "accepts" => return accepts(alloc, out, &words.text(alloc)?),
+        "expr" => expression(alloc, out, words, desk)?,
+        _ => {
+            desk.read(alloc, words)?;
+            push_tree(out, word, desk.tree()?)?;
+        }
     }
+    Ok(push_names(out, &desk.journal.values.names)?)
 }
 
 /// The tree that stands next. Its places are in the expression.
@@ -66,16 +71,12 @@ fn selection(alloc: Global, desk: &mut RunDesk, words: &mut Words<'_>) -> Read<E
     Ok(Expr::select(alloc, popped(&mut desk.trees)?, name, name_place, place)?)
 }
 
-fn on_tree(alloc: Global, out: &mut String, word: &str, words: &mut Words<'_>) -> Read<()> {
-    let desk = RunDesk::by(alloc, words)?;
-    let tree = desk.tree()?;
+fn push_tree(out: &mut String, word: &str, tree: &Expr) -> Read<()> {
     if word == "terms" {
         let terms = terms_of(tree);
-        write!(out, "{terms}")?;
-    } else {
-        push_shown(out, tree)?;
+        return Ok(write!(out, "{terms}")?);
     }
-    Ok(push_names(out, &desk.journal.values.names)?)
+    Ok(push_shown(out, tree)?)
 }
 
 // How many literals a sum of literals has.
@@ -112,12 +113,16 @@ fn accepts(alloc: Global, out: &mut String, text: &[u8]) -> Read<()> {
     }
 }
 
-fn expression(alloc: Global, out: &mut String, words: &mut Words<'_>) -> Read<()> {
+fn expression(
+    alloc: Global,
+    out: &mut String,
+    words: &mut Words<'_>,
+    desk: &mut RunDesk,
+) -> Read<()> {
     let text = words.text(alloc)?;
-    let mut desk = RunDesk::by(alloc, words)?;
+    desk.read(alloc, words)?;
     match desk.expression(alloc, &text)? {
-        Ok(tree) => push_shown(out, &tree)?,
-        Err(halt) => push_halt(out, halt)?,
+        Ok(tree) => Ok(push_shown(out, &tree)?),
+        Err(halt) => push_halt(out, halt),
     }
-    Ok(push_names(out, &desk.journal.values.names)?)
 }

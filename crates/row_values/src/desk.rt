@@ -2,7 +2,7 @@
 
 use row_words::{Read, Unreadable, Words, found, last, popped};
 use std::alloc::Global;
-use vdm_kinds::{Halt, Name};
+use vdm_kinds::{Halt, Name, OutOfMemory};
 use vdm_names::Names;
 use vdm_values::{Node, Slot, Value};
 
@@ -20,13 +20,33 @@ pub struct ValueDesk {
 
 impl ValueDesk {
     /// Nothing is made so far.
-    pub fn new(alloc: Global) -> Read<ValueDesk> {
+    pub fn new(alloc: Global) -> Result<ValueDesk, OutOfMemory> {
         Ok(ValueDesk {
             names: Names::new(alloc)?,
             known: Vec::new(alloc),
             values: Vec::new(alloc),
             slots: Vec::new(alloc),
         })
+    }
+
+    /// Begins again, with nothing made.
+    pub fn clear(&mut self, alloc: Global) -> Result<(), OutOfMemory> {
+        self.names = Names::new(alloc)?;
+        self.known.clear();
+        self.values.clear();
+        self.slots.clear();
+        Ok(())
+    }
+
+    /// Does what all further words say.
+    pub fn read(&mut self, alloc: Global, words: &mut Words<'_>) -> Read<()> {
+        for _word in 0..words.bound() {
+            if words.is_over() {
+                break;
+            }
+            self.follow(alloc, words.word(), words)?;
+        }
+        Ok(())
     }
 
     /// Does what a word says.

@@ -1,6 +1,7 @@
 //! Answers of rows on names, faults, lexemes, values and sets.
 //!
-//! A request is a word and the words behind it; the head of each module says which words it answers.
+//! A request is a word and the words behind it; the head of each module says which words it answers. What the words make
+//! stands on a desk that the program owns and lends.
 #![tactic(auto)]
 
 mod desk;
@@ -22,6 +23,7 @@ pub fn answer(
     out: &mut String,
     word: &str,
     words: &mut Words<'_>,
+    desk: &mut ValueDesk,
 ) -> Option<Read<()>> {
     match word {
         "take" | "refusal" | "fault" | "names" | "name" => Some(kinds::answer(
@@ -42,25 +44,25 @@ pub fn answer(
         | "set-size"
         | "map-size"
         | "insertion"
-        | "insertion-of-pairs" => { Some(on_values(alloc, out, word, words)) }
+        | "insertion-of-pairs" => { Some(on_values(alloc, out, word, words, desk)) }
         _ => None,
     }
 }
 
 // An answer on the values that the words make.
-fn on_values(alloc: Global, out: &mut String, word: &str, words: &mut Words<'_>) -> Read<()> {
-    let mut desk = ValueDesk::new(alloc)?;
-    for _word in 0..words.bound() {
-        if words.is_over() {
-            break;
-        }
-        desk.follow(alloc, words.word(), words)?;
-    }
+fn on_values(
+    alloc: Global,
+    out: &mut String,
+    word: &str,
+    words: &mut Words<'_>,
+    desk: &mut ValueDesk,
+) -> Read<()> {
+    desk.read(alloc, words)?;
     match word {
         "set" | "map" | "set-size" | "map-size" | "insertion" | "insertion-of-pairs" => {
             sets::answer(alloc, out, word, desk.take_values()?)?
         }
-        _ => values::answer(alloc, out, word, &mut desk)?,
+        _ => values::answer(alloc, out, word, desk)?,
     }
     Ok(push_names(out, &desk.names)?)
 }

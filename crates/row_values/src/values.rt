@@ -1,7 +1,7 @@
 // `order V V`: which of two values comes first. `rising V ..`: that each value is below those behind it, above those
 // before it and level with itself. `apart V ..`: that the copy of each value equals that value and no other. `same V V`:
-// whether the two are one. `taken V`: the value that its node makes. `size V`: nodes and levels. `list V ..`, `pairs V ..` of tuples of two, `slots S ..`: a list
-// made, copied, compared and read.
+// whether the two are one. `taken V`: the value that its node makes. `size V`: nodes and levels. `list V ..`, `pairs V ..`
+// of tuples of two, `slots S ..`: a list made, copied, compared and read.
 
 use crate::desk::{ValueDesk, pairs_of};
 use row_words::{Read, Unreadable, popped, push_shown, push_yes};

@@ -16,19 +16,23 @@ pub(crate) fn answer(
     out: &mut String,
     word: &str,
     words: &mut Words<'_>,
+    desk: &mut RunDesk,
 ) -> Read<()> {
     match word {
-        "judge" => judge(alloc, out, words),
-        "run" => run_whole(alloc, out, words),
-        _ => on_entries(alloc, out, word, words),
+        "judge" => judge(alloc, out, words, desk)?,
+        "run" => run_whole(alloc, out, words, desk)?,
+        _ => {
+            desk.read(alloc, words)?;
+            on_entries(out, word, desk)?;
+        }
     }
+    Ok(push_names(out, &desk.journal.values.names)?)
 }
 
-fn judge(alloc: Global, out: &mut String, words: &mut Words<'_>) -> Read<()> {
+fn judge(alloc: Global, out: &mut String, words: &mut Words<'_>, desk: &mut RunDesk) -> Read<()> {
     let units = words.whole()?;
-    let desk = RunDesk::by(alloc, words)?;
-    push_judged(alloc, out, units, &desk, &desk.journal.entries)?;
-    Ok(push_names(out, &desk.journal.values.names)?)
+    desk.read(alloc, words)?;
+    push_judged(alloc, out, units, desk, &desk.journal.entries)
 }
 
 fn push_judged(
@@ -42,14 +46,12 @@ fn push_judged(
     Ok(out.push_str(if is_run { "run" } else { "no run" })?)
 }
 
-fn on_entries(alloc: Global, out: &mut String, word: &str, words: &mut Words<'_>) -> Read<()> {
-    let desk = RunDesk::by(alloc, words)?;
+fn on_entries(out: &mut String, word: &str, desk: &RunDesk) -> Read<()> {
     if word == "finish" {
-        push_finish(out, &desk.journal.entries)?;
+        push_finish(out, &desk.journal.entries)
     } else {
-        push_order(out, &desk, &desk.journal.entries)?;
+        push_order(out, desk, &desk.journal.entries)
     }
-    Ok(push_names(out, &desk.journal.values.names)?)
 }
 
 fn push_order(out: &mut String, desk: &RunDesk, entries: &EntryList) -> Read<()> {
@@ -85,13 +87,17 @@ fn push_finish(out: &mut String, entries: &EntryList) -> Read<()> {
     Ok(())
 }
 
-fn run_whole(alloc: Global, out: &mut String, words: &mut Words<'_>) -> Read<()> {
+fn run_whole(
+    alloc: Global,
+    out: &mut String,
+    words: &mut Words<'_>,
+    desk: &mut RunDesk,
+) -> Read<()> {
     let units = words.whole()?;
-    let desk = RunDesk::by(alloc, words)?;
+    desk.read(alloc, words)?;
     let ran = run(alloc, desk.spec()?, desk.tree()?, units);
     out.push_str(if ran.is_whole { "whole " } else { "cut short " })?;
-    push_judgement(alloc, out, units, &desk, &ran.journal)?;
-    Ok(push_names(out, &desk.journal.values.names)?)
+    push_judgement(alloc, out, units, desk, &ran.journal)
 }
 
 fn push_judgement(

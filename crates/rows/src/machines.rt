@@ -19,13 +19,14 @@ pub(crate) fn answer(
     out: &mut String,
     word: &str,
     words: &mut Words<'_>,
+    desk: &mut RunDesk,
 ) -> Read<()> {
     let units = words.whole()?;
-    let mut desk = RunDesk::by(alloc, words)?;
+    desk.read(alloc, words)?;
     match word {
-        "play" => play(alloc, out, units, &mut desk)?,
-        "calls" => calls(alloc, out, units, &desk)?,
-        _ => asks(alloc, out, units, &mut desk)?,
+        "play" => play(alloc, out, units, desk)?,
+        "calls" => calls(alloc, out, units, desk)?,
+        _ => asks(alloc, out, units, desk)?,
     }
     Ok(push_names(out, &desk.journal.values.names)?)
 }

@@ -8,6 +8,7 @@ mod judges;
 mod machines;
 mod programs;
 
+use row_runs::RunDesk;
 use row_words::{Read, Words};
 use std::alloc::Global;
 use std::io::{self, BufRead, BufReader, BufWriter, ErrorKind, Write};
@@ -16,26 +17,27 @@ use vdm_kinds::Halt;
 
 fn main(rt: HostRuntime) -> io::Result<()> {
     let mut out = BufWriter::new(rt.alloc(), io::writer(&rt))?;
+    let mut desk = RunDesk::new(rt.alloc()).map_err(|_| ErrorKind::OutOfMemory)?;
     for line in BufReader::new(rt.alloc(), rt.reader())?.lines(rt.alloc()) {
         let line = line?;
-        let answer = answer(&rt, rt.alloc(), line.as_str())?;
+        let answer = answer(&rt, rt.alloc(), line.as_str(), &mut desk)?;
         writeln!(out, "{answer}")?;
     }
     out.flush()
 }
 
 // The line of an answer.
-fn answer<R: Clock>(rt: &R, alloc: Global, line: &str) -> io::Result<String> {
+fn answer<R: Clock>(rt: &R, alloc: Global, line: &str, desk: &mut RunDesk) -> io::Result<String> {
     let mut out = String::new(alloc);
     match line.strip_prefix("time ") {
         Some(asked) => row_values::push_time(rt, alloc, &mut out, asked)?,
-        None => push_answer(alloc, &mut out, line)?,
+        None => push_answer(alloc, &mut out, line, desk)?,
     }
     Ok(out)
 }
 
-fn push_answer(alloc: Global, out: &mut String, line: &str) -> io::Result<()> {
-    match answer_to(alloc, out, &mut Words::new(line)) {
+fn push_answer(alloc: Global, out: &mut String, line: &str, desk: &mut RunDesk) -> io::Result<()> {
+    match answer_to(alloc, out, &mut Words::new(line), desk) {
         Ok(()) => Ok(()),
         Err(Halt::Of(_)) => {
             out.clear();
@@ -45,13 +47,19 @@ fn push_answer(alloc: Global, out: &mut String, line: &str) -> io::Result<()> {
     }
 }
 
-fn answer_to(alloc: Global, out: &mut String, words: &mut Words<'_>) -> Read<()> {
+fn answer_to(
+    alloc: Global,
+    out: &mut String,
+    words: &mut Words<'_>,
+    desk: &mut RunDesk,
+) -> Read<()> {
+    desk.clear(alloc)?;
     let word = words.word();
     match word {
         "main" => programs::answer(alloc, out, words),
-        "play" | "calls" | "asks" => machines::answer(alloc, out, word, words),
-        "judge" | "ordered" | "finish" | "run" => judges::answer(alloc, out, word, words),
-        _ => answer_of_library(alloc, out, word, words),
+        "play" | "calls" | "asks" => machines::answer(alloc, out, word, words, desk),
+        "judge" | "ordered" | "finish" | "run" => { judges::answer(alloc, out, word, words, desk) }
+        _ => answer_of_library(alloc, out, word, words, desk),
     }
 }
 
@@ -60,15 +68,16 @@ fn answer_of_library(
     out: &mut String,
     word: &str,
     words: &mut Words<'_>,
+    desk: &mut RunDesk,
 ) -> Read<()> {
-    if let Some(answer) = row_values::answer(alloc, out, word, words) {
+    if let Some(answer) = row_values::answer(alloc, out, word, words, &mut desk.journal.values) {
         return answer;
     }
-    if let Some(answer) = row_runs::answer(alloc, out, word, words) {
+    if let Some(answer) = row_logs::answer(alloc, out, word, words, &mut desk.journal) {
         return answer;
     }
-    match row_logs::answer(alloc, out, word, words) {
+    match row_runs::answer(alloc, out, word, words, desk) {
         Some(answer) => answer,
-        None => row_journals::answer(alloc, out, word, words),
+        None => row_journals::answer(alloc, out, word, words, &mut desk.journal),
     }
 }
