@@ -1,5 +1,5 @@
 -- The spans of lexemes rise.
-use Rattle.std.proofs.Common.{◌≡◌, ℕ, zero, suc, ◌+◌, ◌*◌, ◌<◌, ◌≤◌, ◌==◌, Bool, true, false, cond, List, [], ◌∷◌, length, take, drop, Ok, Err, refl, ap, sym, subst, arith}
+use Rattle.std.proofs.Common.{◌≡◌, ℕ, zero, suc, ◌+◌, ◌-◌, ◌*◌, ◌<◌, ◌≤◌, ◌==◌, Bool, true, false, cond, List, [], ◌∷◌, length, take, drop, Ok, Err, refl, ap, sym, subst, arith}
 use Rattle.std.specs.Char.{len_utf8, encode_utf8}
 use Rattle.std.specs.Str.{encode_utf8_all}
 use Rattle.std.proofs.lemmas.Str.{len_utf8_bounds, length-encode}
@@ -10,7 +10,7 @@ use Rattle.vdm_lexer.specs.declared.front.Front.{Front}
 use Rattle.vdm_lexer.specs.declared.front.Front.TheVariants.{Space, Token, Fault}
 use Rattle.vdm_lexer.specs.declared.lexeme.Lexeme.{Lexeme}
 use Rattle.vdm_lexer.specs.declared.spot.Spot.{Spot}
-use Rattle.vdm_lexer.specs.Fronts.{front_of}
+use Rattle.vdm_lexer.specs.Fronts.{front_of, front_within}
 use Rattle.vdm_lexer.specs.Lexemes.{Reading, before, front_before, lexemes_behind, lexemes_of, mark_length}
 use Rattle.vdm_lexer.specs.Rising.{Rises}
 use Rattle.vdm_lexer.specs.Spots.{start_of, bytes_of, spot_after}
@@ -47,16 +47,15 @@ if_ok-front (Token kind more) spot c size cs behind h =
     if_ok-before spot.offset size _ (behind more) (omega arith) (omega arith) (subst (λ (n : ℕ). RisesIfOk n size (behind more)) (omega arith) (h more))
 if_ok-front (Fault kind n) spot c size cs behind h = tt
 
-end-rises : (whole : Bool) (spot : Spot) (least size : ℕ) → least ≡ spot.offset → size ≡ spot.offset → RisesIfOk least size (lexemes_behind whole spot 0 [])
-end-rises true spot least size e f = record { kind = refl; start = sym f; end = omega arith; behind = omega arith }
-end-rises false spot least size e f = tt
+end-rises : (spot : Spot) (least size : ℕ) → least ≡ spot.offset → size ≡ spot.offset → RisesIfOk least size (lexemes_behind 0 spot 0 [])
+end-rises spot least size e f = record { kind = refl; start = sym f; end = omega arith; behind = omega arith }
 
-behind-rises : (whole : Bool) (text : List ℕ) (spot : Spot) (skipped : ℕ) (least size : ℕ) → least ≡ spot.offset + bytes_of (take skipped text) → size ≡ spot.offset + bytes_of text → RisesIfOk least size (lexemes_behind whole spot skipped text)
-behind-rises whole [] spot zero least size e f = end-rises whole spot least size (omega arith) (omega arith)
-behind-rises whole [] spot (suc skipped) least size e f = end-rises whole spot least size (omega arith) (omega arith)
-behind-rises whole (c ∷ cs) spot (suc skipped) least size e f = behind-rises whole cs (spot_after spot c) skipped least size (omega arith) (omega arith)
-behind-rises whole (c ∷ cs) spot zero least size e f =
-    let all = if_ok-front (front_of (c ∷ cs)) spot c size cs _ (λ (more : ℕ). behind-rises whole cs (spot_after spot c) more _ size refl (omega arith)) in
+behind-rises : (good : ℕ) (text : List ℕ) (spot : Spot) (skipped : ℕ) (least size : ℕ) → least ≡ spot.offset + bytes_of (take skipped text) → size ≡ spot.offset + bytes_of text → RisesIfOk least size (lexemes_behind good spot skipped text)
+behind-rises good [] spot zero least size e f = end-rises spot least size (omega arith) (omega arith)
+behind-rises good [] spot (suc skipped) least size e f = end-rises spot least size (omega arith) (omega arith)
+behind-rises good (c ∷ cs) spot (suc skipped) least size e f = behind-rises (good - 1) cs (spot_after spot c) skipped least size (omega arith) (omega arith)
+behind-rises good (c ∷ cs) spot zero least size e f =
+    let all = if_ok-front (front_within good (front_of (c ∷ cs))) spot c size cs _ (λ (more : ℕ). behind-rises (good - 1) cs (spot_after spot c) more _ size refl (omega arith)) in
     if_ok-from_less least spot.offset size _ (omega arith) all
 
 -- a byte-order mark has three bytes
@@ -74,13 +73,13 @@ mark-bytes (c ∷ cs) = by (c == 0xfeff) refl
 found-rise : (least size : ℕ) (reading : Reading) (found : List Lexeme) → reading ≡ Ok found → RisesIfOk least size reading → Rises least size found
 found-rise least size reading found e r = subst (RisesIfOk least size) e r
 
-pub lexemes-rise : (part : Part) (whole : Bool) (text : List ℕ) (found : List Lexeme) → lexemes_of part whole text ≡ Ok found → Rises 0 (bytes_of text) found
-lexemes-rise part whole text found e =
+pub lexemes-rise : (part : Part) (good : ℕ) (text : List ℕ) (found : List Lexeme) → lexemes_of part good text ≡ Ok found → Rises 0 (bytes_of text) found
+lexemes-rise part good text found e =
     let size = mark-bytes text in
     let start : Spot = record { offset = 3 * mark_length text; place = start_of part } in
     found-rise 0 (bytes_of text) _ found e
     (if_ok-from_less 0 (3 * mark_length text) (bytes_of text) _ (omega arith)
-    (behind-rises whole (drop (mark_length text) text) start 0 (3 * mark_length text) (bytes_of text) (omega arith) size))
+    (behind-rises (good - mark_length text) (drop (mark_length text) text) start 0 (3 * mark_length text) (bytes_of text) (omega arith) size))
 
 pub bytes-encoded : (text : List ℕ) → bytes_of text ≡ length (encode_utf8_all text)
 bytes-encoded [] = refl

@@ -3,18 +3,7 @@ use Rattle.std.proofs.Common.{◌≡◌, ℕ, ◌+◌, ◌<◌, ◌≤◌, max, 
 use Rattle.std.proofs.lemmas.Bool.Decides.{nat_tests}
 use Rattle.std.specs.Ordering.{ord_max}
 use Rattle.std.proofs.lemmas.List.{drop_more, drop_all}
-use denote.Bor.{Bor}
 use Rattle.vdm_lexer.specs.Signs.{longest, sign_length}
-
-abbrev texts : List (Bor (List ℕ)) → List (List ℕ)
-texts signs = map (λ sign. sign.now) signs
-
-pub longest-end : (all : ℕ) (text : List ℕ) (signs : List (Bor (List ℕ))) (found i : ℕ) → length signs ≤ i → all ≡ max found (longest text (texts (drop i signs))) → found ≡ all
-unfolding longest
-longest-end all text signs found i h e =
-    let none = ap (λ (ss : List (Bor (List ℕ))). longest text (texts ss)) (drop_all i signs h) in
-    let zero : longest text [] ≡ 0 = refl in
-    omega arith
 
 greatest : (a b : ℕ) → ord_max nat_cmp a b ≡ max a b
 greatest a b = by (nat_lt b a) (nat_eq b a) refl
@@ -24,10 +13,18 @@ greatest a b = by (nat_lt b a) (nat_eq b a) refl
     by false true e = let h : a ≤ b = grind (arith, nat_tests) in omega arith
     by false false e = let h : a ≤ b = grind (arith, nat_tests) in omega arith
 
-pub longest-step : (all : ℕ) (text : List ℕ) (signs : List (Bor (List ℕ))) (i : ℕ) → i < length signs → (found one next : ℕ) (d : Bor (List ℕ)) → all ≡ max found (longest text (texts (drop i signs))) → one ≡ sign_length text (get_or signs i d).now → next ≡ ord_max nat_cmp found one → all ≡ max next (longest text (texts (drop (i + 1) signs)))
-unfolding longest
-longest-step all text signs i short found one next d h is e =
-    let step = ap (λ (ss : List (Bor (List ℕ))). longest text (texts ss)) (drop_more signs i d short) in
-    let more : longest text (texts (get_or signs i d ∷ drop (i + 1) signs)) ≡ max (sign_length text (get_or signs i d).now) (longest text (texts (drop (i + 1) signs))) = refl in
-    let greater = greatest found one in
-    omega arith
+module _ {X : Type 0} (text_of : X → List ℕ) (all : ℕ) (text : List ℕ) (rows : List X) (i : ℕ) where
+  pub longest-end : (found : ℕ) → length rows ≤ i → all ≡ max found (longest text (map text_of (drop i rows))) → found ≡ all
+  unfolding longest
+  longest-end found h e =
+      let none = ap (λ (rest : List X). longest text (map text_of rest)) (drop_all i rows h) in
+      let zero : longest text [] ≡ 0 = refl in
+      omega arith
+
+  pub longest-step : i < length rows → (found one next : ℕ) (d : X) → all ≡ max found (longest text (map text_of (drop i rows))) → one ≡ sign_length text (text_of (get_or rows i d)) → next ≡ ord_max nat_cmp found one → all ≡ max next (longest text (map text_of (drop (i + 1) rows)))
+  unfolding longest
+  longest-step short found one next d h is e =
+      let step = ap (λ (rest : List X). longest text (map text_of rest)) (drop_more rows i d short) in
+      let more : longest text (map text_of (get_or rows i d ∷ drop (i + 1) rows)) ≡ max (sign_length text (text_of (get_or rows i d))) (longest text (map text_of (drop (i + 1) rows))) = refl in
+      let greater = greatest found one in
+      omega arith

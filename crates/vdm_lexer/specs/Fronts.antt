@@ -1,5 +1,5 @@
 -- What a text begins with: white space or a comment, a token, or a fault.
-use Rattle.std.specs.Prelude.{ℕ, ◌==◌, if◌then◌else◌, List, codes, drop, Option, Some, None}
+use Rattle.std.specs.Prelude.{ℕ, ◌==◌, nat_lt, if◌then◌else◌, List, codes, drop, Option, Some, None}
 use Rattle.vdm_kinds.specs.declared.spec_kind.SpecKind.TheVariants.{LexFault}
 use Rattle.vdm_lexer.specs.declared.lexeme.LexKind.TheVariants.{Quote}
 use Rattle.vdm_lexer.specs.declared.front.Front.{Front}
@@ -34,3 +34,13 @@ front_of text =
     else if begins text (codes "--") then line_comment (drop 1 text)
     else if begins text (codes "/*") then block_comment (drop 2 text)
     else token_front text
+
+-- how many characters stand behind the first of what a text begins with, or before its fault
+abbrev pub reach : Front → ℕ
+reach (Space more) = more
+reach (Token kind more) = more
+reach (Fault kind n) = n
+
+-- what a text begins with, of whose characters so many stand before the first byte that is not UTF-8: nothing reaches that byte but a fault
+abbrev pub front_within : ℕ → Front → Front
+front_within good front = if nat_lt (reach front) good then front else Fault LexFault good

@@ -1,6 +1,7 @@
 pub mod Spots
 pub mod Characters
 pub mod Pieces
+pub mod Written
 pub mod Words
 pub mod Signs
 pub mod Numerals
@@ -8,6 +9,7 @@ pub mod Escapes
 pub mod Quoted
 pub mod Comments
 pub mod Fronts
+pub mod Decoded
 pub mod Lexemes
 pub mod Lexed
 pub mod Longest

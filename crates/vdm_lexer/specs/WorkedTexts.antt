@@ -1,5 +1,5 @@
 -- What texts come to, for laws that are worked out.
-use Rattle.std.specs.Prelude.{ℕ, ◌+◌, true, List, [], ◌∷◌, Ok, Err}
+use Rattle.std.specs.Prelude.{ℕ, ◌+◌, List, [], ◌∷◌, length, Ok, Err}
 use Rattle.vdm_kinds.specs.declared.part.Part.TheVariants.{Expr}
 use Rattle.vdm_kinds.specs.declared.spec_kind.SpecKind.{SpecKind}
 use Rattle.vdm_lexer.specs.declared.lexeme.Lexeme.{Lexeme}
@@ -9,7 +9,7 @@ use Rattle.vdm_lexer.specs.Lexemes.{Reading, fault_at, lexemes_of}
 
 -- the lexemes of an expression
 abbrev pub worked : List ℕ → Reading
-worked text = lexemes_of Expr true text
+worked text = lexemes_of Expr (length text) text
 
 -- a fault on the first line
 abbrev pub refused : SpecKind → ℕ → Reading

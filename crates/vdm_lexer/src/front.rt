@@ -2,7 +2,7 @@
 
 ghost use Rattle.std.specs.Prelude.{◌≡◌, ◌<◌, ◌^◌, length, drop};
 ghost use Rattle.vdm_lexer.specs.Quoted.{quote_length};
-ghost use Rattle.vdm_lexer.specs.Fronts.{front_of, token_front, quote_or_sign};
+ghost use Rattle.vdm_lexer.specs.Fronts.{front_of, token_front, quote_or_sign, reach, front_within};
 
 use crate::character::{is_blank, is_decimal, is_letter};
 use crate::comment::{block_comment, line_comment};
@@ -72,5 +72,28 @@ fn quote_or_sign(text: &[char]) -> Front
     match quote_length(behind(text, 1)) {
         Some(more) => Front::Token(LexKind::Quote, more),
         None => sign_front(text),
+    }
+}
+
+/// What a text begins with, of whose characters so many stand before the first byte that is not UTF-8: nothing reaches
+/// that byte but a fault.
+pub fn front_within(good: usize, front: Front) -> Front
+    ensures { result ≡ front_within good front }
+{
+    if reach(front) < good {
+        front
+    } else {
+        Front::Fault(SpecKind::LexFault, good)
+    }
+}
+
+/// How many characters stand behind the first of what a text begins with, or before its fault.
+fn reach(front: Front) -> usize
+    ensures { result ≡ reach front }
+{
+    match front {
+        Front::Space(more) => more,
+        Front::Token(_, more) => more,
+        Front::Fault(_, n) => n,
     }
 }

@@ -1,6 +1,6 @@
 // The laws of lexemes. Each is the contract of a function that does nothing.
 
-ghost use Rattle.std.specs.Prelude.{◌≡◌, ℕ, ◌==◌, ◌||◌, ◌<◌, ◌≤◌, true, List, [], ◌∷◌, length, codes, Bool, Ok};
+ghost use Rattle.std.specs.Prelude.{◌≡◌, ℕ, ◌==◌, ◌||◌, ◌<◌, ◌≤◌, true, List, [], ◌∷◌, length, codes, Ok};
 ghost use Rattle.std.specs.List.{IsAmong};
 ghost use Rattle.std.specs.Str.{encode_utf8_all};
 ghost use Rattle.vdm_kinds.specs.declared.part.Part.{Part};
@@ -24,8 +24,8 @@ pub fn one_list()
 
 /// The spans of a text's lexemes rise, each has a byte or more, and the last is the end behind all bytes.
 pub fn spans_rise()
-    ensures rise { (part : Part) (whole : Bool) (text : List ℕ) (found : List LexemeView)
-        → lexemes_of part whole text ≡ Ok found → Rises 0 (bytes_of text) found }
+    ensures rise { (part : Part) (good : ℕ) (text : List ℕ) (found : List LexemeView)
+        → lexemes_of part good text ≡ Ok found → Rises 0 (bytes_of text) found }
     ensures bytes { (text : List ℕ) → bytes_of text ≡ length (encode_utf8_all text) }
 {}
 

@@ -2,12 +2,12 @@
 
 ghost use Rattle.std.specs.Prelude.{◌≡◌, ◌+◌, ◌*◌, ◌<◌, ◌≤◌, ◌^◌, ◌==◌, length, Ok, Err, IfOk};
 ghost use Rattle.vdm_kinds.specs.declared.spec_fault.SpecFault.{SpecFault};
-ghost use Rattle.vdm_lexer.specs.Fronts.{front_of};
+ghost use Rattle.vdm_lexer.specs.Fronts.{front_of, front_within};
 ghost use Rattle.vdm_lexer.specs.Lexed.{IsPushed, IsRefused};
 ghost use Rattle.vdm_lexer.specs.Lexemes.{lexeme_at, piece_bytes, lexemes, lexemes_of, lexemes_behind, mark_length, limit_of};
 
 use crate::decoded::decode;
-use crate::front::{Front, front_of};
+use crate::front::{Front, front_of, front_within};
 use crate::lexeme::{LexKind, Lexeme};
 use crate::piece::{behind, first, taken};
 use crate::spot::{Spot, after_all, bytes_of, spot_after, start_of};
@@ -26,7 +26,7 @@ pub fn lex(alloc: Global, part: Part, text: &[u8]) -> Result<Vec<Lexeme>, Halt<S
         }));
     }
     let found = decode(alloc, text)?;
-    lexemes_of(alloc, part, found.whole, &found.characters)
+    lexemes_of(alloc, part, found.good, &found.characters)
 }
 
 /// How many bytes a text may have.
@@ -40,23 +40,23 @@ fn limit_of(part: Part) -> usize
     }
 }
 
-/// The lexemes of the characters of a text, where they are all of it or stand before what is not UTF-8.
+/// The lexemes of the characters of a text, of which so many stand before the first byte that is not UTF-8.
 fn lexemes_of(
     alloc: Global,
     part: Part,
-    whole: bool,
+    good: usize,
     text: &[char],
 ) -> Result<Vec<Lexeme>, Halt<SpecFault>>
     requires { length text.now ≤ 4_194_304 }
-    ensures lexemes { IfOk result (λ found. lexemes_of part whole text.now ≡ Ok found.items) }
-    ensures refused { (fault : SpecFault) → result ≡ Err (Halt.Of fault) → lexemes_of part whole text.now ≡ Err fault }
+    ensures lexemes { IfOk result (λ found. lexemes_of part good text.now ≡ Ok found.items) }
+    ensures refused { (fault : SpecFault) → result ≡ Err (Halt.Of fault) → lexemes_of part good text.now ≡ Err fault }
 {
     let mark = mark_length(text);
     let spot = Spot {
         offset: 3 * mark,
         place: start_of(part),
     };
-    lexemes_from(alloc, whole, spot, behind(text, mark))
+    lexemes_from(alloc, good.saturating_sub(mark), spot, behind(text, mark))
 }
 
 /// How many characters are skipped before a text: a byte-order mark.
@@ -67,10 +67,10 @@ fn mark_length(text: &[char]) -> usize
     if first(text) == '\u{feff}' { 1 } else { 0 }
 }
 
-/// The lexemes of a text that begins at a spot.
+/// The lexemes of a text that begins at a spot, where so many characters are good.
 fn lexemes_from(
     alloc: Global,
-    whole: bool,
+    good: usize,
     start: Spot,
     text: &[char],
 ) -> Result<Vec<Lexeme>, Halt<SpecFault>>
@@ -78,26 +78,22 @@ fn lexemes_from(
     requires offset { start.offset ≤ 3 }
     requires line { start.place.line ≤ 1 }
     requires column { start.place.column ≤ 1 }
-    ensures lexemes { IfOk result (λ found. lexemes_behind whole start 0 text.now ≡ Ok found.items) }
-    ensures refused { (fault : SpecFault) → result ≡ Err (Halt.Of fault) → lexemes_behind whole start 0 text.now ≡ Err fault }
+    ensures lexemes { IfOk result (λ found. lexemes_behind good start 0 text.now ≡ Ok found.items) }
+    ensures refused { (fault : SpecFault) → result ≡ Err (Halt.Of fault) → lexemes_behind good start 0 text.now ≡ Err fault }
 {
     let mut lexemes = Vec::new(alloc);
     let mut spot = start;
+    let mut good = good;
     // How many characters of the last token or comment are still to come.
     let mut skipped = 0;
     for (i, c) in text.iter().enumerate() {
         if skipped > 0 {
             skipped -= 1;
         } else {
-            skipped = push_front(&mut lexemes, spot, behind(text, i))?;
+            skipped = push_front(&mut lexemes, good, spot, behind(text, i))?;
         }
         spot = spot_after(spot, *c);
-    }
-    if !whole {
-        return Err(Halt::Of(SpecFault {
-            kind: SpecKind::LexFault,
-            place: spot.place,
-        }));
+        good = good.saturating_sub(1);
     }
     lexemes.push(lexeme_at(LexKind::End, spot, 0))?;
     Ok(lexemes)
@@ -107,6 +103,7 @@ fn lexemes_from(
 /// the text begins with.
 fn push_front(
     lexemes: &mut Vec<Lexeme>,
+    good: usize,
     spot: Spot,
     text: &[char],
 ) -> Result<usize, Halt<SpecFault>>
@@ -115,10 +112,10 @@ fn push_front(
     requires offset { spot.offset ≤ 4 * 4_194_304 + 3 }
     requires line { spot.place.line ≤ 4_194_304 }
     requires column { spot.place.column ≤ 4_194_304 }
-    ensures pushed { IfOk result (λ more. IsPushed (front_of text.now) spot text.now lexemes.old.items lexemes.new.items more) }
-    ensures refused { (fault : SpecFault) → result ≡ Err (Halt.Of fault) → IsRefused (front_of text.now) spot text.now fault }
+    ensures pushed { IfOk result (λ more. IsPushed (front_within good (front_of text.now)) spot text.now lexemes.old.items lexemes.new.items more) }
+    ensures refused { (fault : SpecFault) → result ≡ Err (Halt.Of fault) → IsRefused (front_within good (front_of text.now)) spot text.now fault }
 {
-    match front_of(text) {
+    match front_within(good, front_of(text)) {
         Front::Space(more) => Ok(more),
         Front::Token(kind, more) => {
             lexemes.push(lexeme_at(kind, spot, piece_bytes(text, more)))?;

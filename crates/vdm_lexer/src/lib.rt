@@ -15,9 +15,11 @@ mod quoted;
 mod sign;
 mod spot;
 mod word;
+mod written;
 
 pub use laws::{
     identifiers_are_of_unicode, longest_sign_is_taken, one_list, spans_rise, worked_lexemes,
 };
 pub use lexeme::{LexKind, Lexeme};
 pub use lexer::lex;
+pub use written::{SIGNS, WORDS_FROM_M, WORDS_TO_L, WrittenKind};

@@ -1,10 +1,11 @@
 use Rattle.std.proofs.Common.{refl}
 use Rattle.vdm_lexer.specs.Pieces.{begins, is_text}
 use Rattle.vdm_lexer.specs.Signs.{longest}
+use Rattle.vdm_lexer.specs.Written.{kind_in}
 use Rattle.vdm_lexer.proofs.laws.worked_lexemes.Goals as goal
 
 pub returns : goal.returns
-unfolding begins is_text longest
+unfolding begins is_text longest kind_in
 returns c = record {
   empty = refl;
   fraction = refl;

@@ -13,15 +13,15 @@ loop-i-preserved c =
     elim c.if-skipped-gt0.branch [
       | then-skipped-gt0 w ↦ record {
         near = near;
-        read = rw (w.lexemes-is, w.skipped-is) (was.read ∙ read-skipped c.args.whole c.loop-i.spot c.spot_after-spot.result c.args.text.now c.loop-i.i c.loop-i-test.true next _ c.loop-i.skipped w.if-skipped-gt0.true);
+        read = rw (w.lexemes-is, w.skipped-is, c.saturating_sub-good.ensures) (was.read ∙ read-skipped c.loop-i.good c.loop-i.spot c.spot_after-spot.result c.args.text.now c.loop-i.i c.loop-i-test.true next _ c.loop-i.skipped w.if-skipped-gt0.true);
       }
       | else-skipped-gt0+in_ok-skipped w ↦ record {
         near = near;
-        read = rw (w.lexemes-is, w.skipped-is) (was.read ∙ read-front c.args.whole c.loop-i.spot c.spot_after-spot.result c.args.text.now c.loop-i.i c.loop-i-test.true next _ _ c.loop-i.skipped _ (omega (arith, w.if-skipped-gt0.false)) (rw w.behind.ensures.behind at (w.in_ok-skipped.ensures.pushed)));
+        read = rw (w.lexemes-is, w.skipped-is, c.saturating_sub-good.ensures) (was.read ∙ read-front c.loop-i.good c.loop-i.spot c.spot_after-spot.result c.args.text.now c.loop-i.i c.loop-i-test.true next _ _ c.loop-i.skipped _ (omega (arith, w.if-skipped-gt0.false)) (rw w.behind.ensures.behind at (w.in_ok-skipped.ensures.pushed)));
       }
     ]
 
 pub returns-in_err-skipped-clause-refused : goal.returns-in_err-skipped-clause-refused
 returns-in_err-skipped-clause-refused c fault e =
     c.loop-i.invariant.read
-    ∙ read-fault c.args.whole c.loop-i.spot c.args.text.now c.loop-i.i c.loop-i-test.true _ c.loop-i.skipped fault (omega (arith, c.if-skipped-gt0.false)) (rw c.behind.ensures.behind at (c.in_err-skipped.ensures.refused fault (let x = rw e at (c.from_residual.ensures.1) in ap Err (sym x))))
+    ∙ read-fault c.loop-i.good c.loop-i.spot c.args.text.now c.loop-i.i c.loop-i-test.true _ c.loop-i.skipped fault (omega (arith, c.if-skipped-gt0.false)) (rw c.behind.ensures.behind at (c.in_err-skipped.ensures.refused fault (let x = rw e at (c.from_residual.ensures.1) in ap Err (sym x))))

@@ -7,5 +7,5 @@ use Rattle.vdm_lexer.proofs.lexer.lexemes_from.Given as goal
 abbrev pub invariant-loop-i : goal.invariant-loop-i
 invariant-loop-i l = record {
   near : IsNear l.spot l.i;
-  read : lexemes_behind l.whole l.fn.start 0 l.text ≡ all_before l.lexemes.items (lexemes_behind l.whole l.spot l.skipped (drop l.i l.text));
+  read : lexemes_behind l.fn.good l.fn.start 0 l.text ≡ all_before l.lexemes.items (lexemes_behind l.good l.spot l.skipped (drop l.i l.text));
 }
