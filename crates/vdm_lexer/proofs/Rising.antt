@@ -59,7 +59,7 @@ behind-rises good (c ∷ cs) spot zero least size e f =
     if_ok-from_less least spot.offset size _ (omega arith) all
 
 -- a byte-order mark has three bytes
-mark-bytes : (text : List ℕ) → bytes_of text ≡ 3 * mark_length text + bytes_of (drop (mark_length text) text)
+pub mark-bytes : (text : List ℕ) → bytes_of text ≡ 3 * mark_length text + bytes_of (drop (mark_length text) text)
 mark-bytes [] = refl
 mark-bytes (c ∷ cs) = by (c == 0xfeff) refl
   where
