@@ -14,6 +14,7 @@ use Rattle.vdm_lexer.specs.Quoted.{string_front, character_front, quote_length}
 use Rattle.vdm_lexer.specs.Signs.{sign_front}
 use Rattle.vdm_lexer.specs.Words.{word_front}
 use Rattle.lexeme_laws.specs.Tokens.{IsSignPlace}
+use Rattle.lexeme_laws.proofs.Alphabet.{no-letter-out}
 use Rattle.lexeme_laws.proofs.Quotes.{no-quote-length}
 use Rattle.lexeme_laws.proofs.Runs.{differs}
 
@@ -76,7 +77,7 @@ at-digit c cs h =
 pub at-sign : (text : List ℕ) → IsSignPlace text → front_of text ≡ sign_front text
 at-sign text p =
     to-token text p.blank p.line p.block
-    ∙ ap (λ (b : Bool). cond b (word_front text) (cond (is_decimal (first text)) (numeral_front text) (cond (first text == 39) (character_front (drop 1 text)) (cond (first text == 34) (string_front (drop 1 text)) (cond (first text == 60) (quote_or_sign (quote_length (drop 1 text)) text) (cond (begins text (codes "\\begin{")) (Fault LexFault 0) (sign_front text))))))) p.letter
+    ∙ ap (λ (b : Bool). cond b (word_front text) (cond (is_decimal (first text)) (numeral_front text) (cond (first text == 39) (character_front (drop 1 text)) (cond (first text == 34) (string_front (drop 1 text)) (cond (first text == 60) (quote_or_sign (quote_length (drop 1 text)) text) (cond (begins text (codes "\\begin{")) (Fault LexFault 0) (sign_front text))))))) (no-letter-out (first text) p.letter)
     ∙ ap (λ (b : Bool). cond b (numeral_front text) (cond (first text == 39) (character_front (drop 1 text)) (cond (first text == 34) (string_front (drop 1 text)) (cond (first text == 60) (quote_or_sign (quote_length (drop 1 text)) text) (cond (begins text (codes "\\begin{")) (Fault LexFault 0) (sign_front text)))))) p.digit
     ∙ ap (λ (b : Bool). cond b (character_front (drop 1 text)) (cond (first text == 34) (string_front (drop 1 text)) (cond (first text == 60) (quote_or_sign (quote_length (drop 1 text)) text) (cond (begins text (codes "\\begin{")) (Fault LexFault 0) (sign_front text))))) p.character
     ∙ ap (λ (b : Bool). cond b (string_front (drop 1 text)) (cond (first text == 60) (quote_or_sign (quote_length (drop 1 text)) text) (cond (begins text (codes "\\begin{")) (Fault LexFault 0) (sign_front text)))) p.string

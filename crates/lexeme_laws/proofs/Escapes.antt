@@ -8,6 +8,7 @@ use Rattle.vdm_lexer.specs.Escapes.{escape_length, is_plain_escape, are_two, are
 use Rattle.lexeme_laws.specs.Longest.{AreAll, NoFront}
 use Rattle.lexeme_laws.specs.Literals.{IsEscape}
 use Rattle.lexeme_laws.specs.Literals.IsEscape.{plain, two, four}
+use Rattle.lexeme_laws.proofs.Alphabet.{scalar-in, scalar-out}
 use Rattle.lexeme_laws.proofs.Begun.{both, same-if}
 use Rattle.lexeme_laws.proofs.Runs.{run-length, run-all}
 
@@ -27,7 +28,7 @@ four-read a b c d rest all scalar =
 pub escape-read : (piece rest : List ℕ) → IsEscape piece → escape_length (drop 1 (piece ++ rest)) ≡ Some (length piece - 1)
 escape-read piece rest (plain c is h) = subst (λ (p : List ℕ). escape_length (drop 1 (p ++ rest)) ≡ Some (length p - 1)) (sym is) (plain-read c rest h)
 escape-read piece rest (two a b is all) = subst (λ (p : List ℕ). escape_length (drop 1 (p ++ rest)) ≡ Some (length p - 1)) (sym is) (two-read a b rest all)
-escape-read piece rest (four a b c d is all scalar) = subst (λ (p : List ℕ). escape_length (drop 1 (p ++ rest)) ≡ Some (length p - 1)) (sym is) (four-read a b c d rest all scalar)
+escape-read piece rest (four a b c d is all scalar) = subst (λ (p : List ℕ). escape_length (drop 1 (p ++ rest)) ≡ Some (length p - 1)) (sym is) (four-read a b c d rest all (scalar-out (a ∷ b ∷ c ∷ d ∷ []) scalar))
 
 -- what is read as an escape is one
 
@@ -82,7 +83,7 @@ four-found cs c n x h k e =
       escape = 92 ∷ 117 ∷ digits.0 ∷ digits.1 ∷ digits.2 ∷ digits.3 ∷ [];
       others = drop 4 cs;
       is = ap (λ (y : ℕ). 92 ∷ y ∷ cs) x ∙ ap (λ (t : List ℕ). 92 ∷ 117 ∷ t) (sym (take-append-drop 4 cs)) ∙ ap (λ (t : List ℕ). 92 ∷ 117 ∷ (t ++ drop 4 cs)) digits.4;
-      one = four digits.0 digits.1 digits.2 digits.3 refl (subst (AreAll is_hexadecimal) digits.4 full.0) (ap is_scalar (sym digits.4) ∙ k);
+      one = four digits.0 digits.1 digits.2 digits.3 refl (subst (AreAll is_hexadecimal) digits.4 full.0) (scalar-in (digits.0 ∷ digits.1 ∷ digits.2 ∷ digits.3 ∷ []) (ap is_scalar (sym digits.4) ∙ k));
       long = omega arith;
     }
 

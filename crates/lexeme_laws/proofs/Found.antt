@@ -1,5 +1,5 @@
 -- What is read in front of a text stands there.
-use Rattle.std.proofs.Common.{◌≡◌, ℕ, suc, ◌+◌, ◌-◌, ◌==◌, ◌<◌, ◌⊎◌, inl, inr, Bool, true, false, List, [], ◌∷◌, ◌++◌, length, take, drop, codes, Option, Some, None, refl, ap, sym, subst, ◌∙◌, append_assoc, append-nil, length-append, arith}
+use Rattle.std.proofs.Common.{◌≡◌, ℕ, suc, ◌+◌, ◌-◌, ◌==◌, ◌||◌, ◌<◌, ◌⊎◌, inl, inr, Bool, true, false, List, [], ◌∷◌, ◌++◌, length, take, drop, codes, Option, Some, None, refl, ap, sym, subst, ◌∙◌, append_assoc, append-nil, length-append, arith}
 use Rattle.std.specs.List.{concat}
 use Rattle.std.proofs.lemmas.List.{take-append-drop}
 use Rattle.std.specs.List.{prefix_len}
@@ -24,6 +24,7 @@ use Rattle.lexeme_laws.specs.Longest.{IsMadeOf, IsLongest, NoFront}
 use Rattle.lexeme_laws.specs.Numerals.{IsNumeral, IsWhole, IsLeftOutNumeral}
 use Rattle.lexeme_laws.specs.Spaces.{IsBlockComment, IsSpace}
 use Rattle.lexeme_laws.specs.Tokens.{IsSign, IsSignPlace, IsToken}
+use Rattle.lexeme_laws.proofs.Alphabet.{no-letter-in, less-if, most-if, goes-in, stops-in}
 use Rattle.lexeme_laws.proofs.Begun.{begins-sound, same-if, if-same}
 use Rattle.lexeme_laws.proofs.Escapes.{no-escape}
 use Rattle.lexeme_laws.proofs.Kept.{close-found, none-closed, shut-made}
@@ -169,21 +170,20 @@ letter-of c cs h =
 -- numerals
 
 numeral-of : (text piece rest : List ℕ) → text ≡ piece ++ rest → 0 < length text → IsLongest IsNumeral piece rest → IsNumeral piece → HoldsAt text
-numeral-of text piece rest is some l (IsNumeral.decimal w) = by (is_fraction rest) (is_exponent rest) (is_small 10 piece) refl refl refl
+numeral-of text piece rest is some l (IsNumeral.decimal w) = by (is_fraction rest || is_exponent rest) (is_small 10 piece) refl refl
   where
     out : IsLeftOutNumeral piece rest → HoldsAt text
     out n = fault-at text left_out 0 (IsFault.left_out refl refl (IsLeftOut.numeral piece rest is l n)) some
 
-    by : (f e s : Bool) → is_fraction rest ≡ f → is_exponent rest ≡ e → is_small 10 piece ≡ s → HoldsAt text
-    by true e s a b d = out (IsLeftOutNumeral.fraction w a)
-    by false true s a b d = out (IsLeftOutNumeral.exponent w b)
-    by false false false a b d = out (IsLeftOutNumeral.great w d)
-    by false false true a b d = token-at Whole text piece rest is (record { numeral = l; whole = IsWhole.decimal w a b d })
+    by : (f s : Bool) → (is_fraction rest || is_exponent rest) ≡ f → is_small 10 piece ≡ s → HoldsAt text
+    by true s a b = out (IsLeftOutNumeral.longer w (goes-in rest a))
+    by false false a b = out (IsLeftOutNumeral.great w (most-if _ _ b))
+    by false true a b = token-at Whole text piece rest is (record { numeral = l; whole = IsWhole.decimal w (stops-in rest a) (less-if _ _ b) })
 numeral-of text piece rest is some l (IsNumeral.hexadecimal w) = by (is_small 16 (drop 2 piece)) refl
   where
     by : (s : Bool) → is_small 16 (drop 2 piece) ≡ s → HoldsAt text
-    by false d = fault-at text left_out 0 (IsFault.left_out refl refl (IsLeftOut.numeral piece rest is l (IsLeftOutNumeral.great_hexadecimal w d))) some
-    by true d = token-at Whole text piece rest is (record { numeral = l; whole = IsWhole.hexadecimal w d })
+    by false b = fault-at text left_out 0 (IsFault.left_out refl refl (IsLeftOut.numeral piece rest is l (IsLeftOutNumeral.great_hexadecimal w (most-if _ _ b)))) some
+    by true b = token-at Whole text piece rest is (record { numeral = l; whole = IsWhole.hexadecimal w (less-if _ _ b) })
 
 digit-of : (c : ℕ) (cs : List ℕ) → is_decimal c ≡ true → HoldsAt (c ∷ cs)
 digit-of c cs h = let cut = numeral-cut c cs h in numeral-of (c ∷ cs) cut.piece cut.rest cut.is (omega arith) cut.longest cut.longest.is
@@ -263,7 +263,7 @@ no-quote-by cs e piece rest is q =
 
 quote-place : (cs : List ℕ) → quote_length cs ≡ None → IsSignPlace (60 ∷ cs)
 unfolding begins
-quote-place cs e = record { blank = refl; line = refl; block = refl; letter = refl; digit = refl; character = refl; string = refl; quote = no-quote-by cs e; begin = refl }
+quote-place cs e = record { blank = refl; line = refl; block = refl; letter = no-letter-in 60 refl; digit = refl; character = refl; string = refl; quote = no-quote-by cs e; begin = refl }
 
 quote-of : (cs : List ℕ) (found : Option ℕ) → quote_length cs ≡ found → HoldsAt (60 ∷ cs)
 quote-of cs None e = sign-of 60 cs (quote-place cs e)
@@ -293,4 +293,4 @@ front-holds c cs = by (is_blank c) (begins (c ∷ cs) (codes "--")) (begins (c �
         let begun = begins-sound (c ∷ cs) (codes "\\begin{") e9 in
         fault-at (c ∷ cs) LexFault 0 (IsFault.lexical refl (IsLexFault.begin begun.0 begun.1 refl)) (omega arith)
     by false false false false false false false false false e1 e2 e3 e4 e5 e6 e7 e8 e9 =
-        sign-of c cs (record { blank = e1; line = e2; block = e3; letter = e4; digit = e5; character = e6; string = e7; quote = no-quote c cs e8; begin = e9 })
+        sign-of c cs (record { blank = e1; line = e2; block = e3; letter = no-letter-in c e4; digit = e5; character = e6; string = e7; quote = no-quote c cs e8; begin = e9 })

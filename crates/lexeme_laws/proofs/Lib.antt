@@ -1,6 +1,7 @@
 pub mod Runs
 pub mod Words
 pub mod Begun
+pub mod Alphabet
 pub mod Spaces
 pub mod Escapes
 pub mod Kept

@@ -10,6 +10,7 @@ use Rattle.vdm_lexer.specs.Quoted.{quote_length}
 use Rattle.vdm_lexer.proofs.Unicode.{letter-unicode, of_word-unicode}
 use Rattle.lexeme_laws.specs.Literals.{IsQuote}
 use Rattle.lexeme_laws.specs.Longest.{AreAll, NoFront}
+use Rattle.lexeme_laws.proofs.Alphabet.{letter-in, letter-out, word-in, word-out}
 use Rattle.lexeme_laws.proofs.Begun.{same-if}
 use Rattle.lexeme_laws.proofs.Runs.{run-length, run-all}
 
@@ -43,7 +44,7 @@ quote-read piece rest q =
     let sum = length-append q.word (62 ∷ []) in
     let same : length q.word ≡ length (w.letter ∷ w.others) = ap length w.is in
     let n : length (w.letter ∷ w.others) + 1 ≡ length piece - 1 = omega arith in
-    ap quote_length whole ∙ quote-taken w.letter w.others rest w.first w.of_word ∙ ap Some n
+    ap quote_length whole ∙ quote-taken w.letter w.others rest (letter-out w.letter w.first) (word-out w.others w.of_word) ∙ ap Some n
 
 pub record IsQuoted (text : List ℕ) (n : ℕ) : Type 0 where
   pub piece : List ℕ
@@ -68,7 +69,7 @@ quoted-word d ds n h k e =
       piece = 60 ∷ ((d ∷ take p ds) ++ 62 ∷ []);
       rest = close.behind;
       is = ap (λ (t : List ℕ). 60 ∷ d ∷ t) whole;
-      quote = record { word = d ∷ take p ds; is = refl; named = record { letter = d; others = take p ds; is = refl; first = h; of_word = run-all is_of_word ds } };
+      quote = record { word = d ∷ take p ds; is = refl; named = record { letter = d; others = take p ds; is = refl; first = letter-in d h; of_word = word-in (take p ds) (run-all is_of_word ds) } };
       long = omega arith;
     }
 

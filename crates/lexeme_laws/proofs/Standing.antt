@@ -25,6 +25,7 @@ use Rattle.lexeme_laws.specs.Longest.{IsMadeOf, IsLongest, NoFront}
 use Rattle.lexeme_laws.specs.Numerals.{IsDecimal, IsHexadecimal, IsNumeral, IsWhole, IsLeftOutNumeral}
 use Rattle.lexeme_laws.specs.Spaces.{IsBlank, IsLineComment, IsBlockComment, IsSpace}
 use Rattle.lexeme_laws.specs.Tokens.{IsSign, IsSignPlace, IsSignToken, IsToken}
+use Rattle.lexeme_laws.proofs.Alphabet.{letter-out, word-out, if-less, if-most, goes-out, stops-out}
 use Rattle.lexeme_laws.proofs.Begun.{same-if}
 use Rattle.lexeme_laws.proofs.Chains.{at-letter, at-digit, at-sign}
 use Rattle.lexeme_laws.proofs.Escapes.{escape-read, escape-none, escape-found, no-escape}
@@ -76,8 +77,8 @@ longest-word piece rest l =
     let w = l.is in
     let n : length w.others ≡ length (w.letter ∷ w.others) - 1 = omega arith in
     subst (λ (p : List ℕ). front_of (p ++ rest) ≡ word_token (kind_in p words) (length p - 1)) (sym w.is)
-    (at-letter w.letter (w.others ++ rest) w.first
-    ∙ word-read w.letter w.others rest w.first w.of_word (subst (λ (p : List ℕ). IsLongest IsWord p rest) w.is l)
+    (at-letter w.letter (w.others ++ rest) (letter-out w.letter w.first)
+    ∙ word-read w.letter w.others rest (letter-out w.letter w.first) (word-out w.others w.of_word) (subst (λ (p : List ℕ). IsLongest IsWord p rest) w.is l)
     ∙ ap (word_token (kind_in (w.letter ∷ w.others) words)) n)
 
 named : (kind : Option WrittenKind) (n : ℕ) → (kind ≡ Some written.Reserved → ⊥) → (kind ≡ Some written.LeftOut → ⊥) → word_token kind n ≡ Token Identifier n
@@ -99,32 +100,24 @@ longest-hexadecimal piece rest w l =
     ∙ hexadecimal-read piece rest w l
 
 whole-read : (piece rest : List ℕ) → IsLongest IsNumeral piece rest → IsWhole piece rest → front_of (piece ++ rest) ≡ Token Whole (length piece - 1)
-whole-read piece rest l (IsWhole.decimal w f e s) =
+whole-read piece rest l (IsWhole.decimal w none small) =
     longest-decimal piece rest w l
-    ∙ ap (λ (b : Bool). cond (b || is_exponent rest) (Fault left_out 0) (whole_token (is_small 10 piece) (length piece - 1))) f
-    ∙ ap (λ (b : Bool). cond b (Fault left_out 0) (whole_token (is_small 10 piece) (length piece - 1))) e
-    ∙ ap (λ (b : Bool). whole_token b (length piece - 1)) s
-whole-read piece rest l (IsWhole.hexadecimal w s) = longest-hexadecimal piece rest w l ∙ ap (λ (b : Bool). whole_token b (length piece - 1)) s
+    ∙ ap (λ (b : Bool). cond b (Fault left_out 0) (whole_token (is_small 10 piece) (length piece - 1))) (stops-out rest none)
+    ∙ ap (λ (b : Bool). whole_token b (length piece - 1)) (if-less _ _ small)
+whole-read piece rest l (IsWhole.hexadecimal w small) = longest-hexadecimal piece rest w l ∙ ap (λ (b : Bool). whole_token b (length piece - 1)) (if-less _ _ small)
+
+either : (b : Bool) → cond b (Fault left_out 0) (Fault left_out 0) ≡ Fault left_out 0
+either true = refl
+either false = refl
 
 left_out-numeral : (piece rest : List ℕ) → IsLongest IsNumeral piece rest → IsLeftOutNumeral piece rest → front_of (piece ++ rest) ≡ Fault left_out 0
-left_out-numeral piece rest l (IsLeftOutNumeral.fraction w f) =
-    longest-decimal piece rest w l ∙ ap (λ (b : Bool). cond (b || is_exponent rest) (Fault left_out 0) (whole_token (is_small 10 piece) (length piece - 1))) f
-left_out-numeral piece rest l (IsLeftOutNumeral.exponent w e) =
+left_out-numeral piece rest l (IsLeftOutNumeral.longer w more) =
+    longest-decimal piece rest w l ∙ ap (λ (b : Bool). cond b (Fault left_out 0) (whole_token (is_small 10 piece) (length piece - 1))) (goes-out rest more)
+left_out-numeral piece rest l (IsLeftOutNumeral.great w most) =
     longest-decimal piece rest w l
-    ∙ ap (λ (b : Bool). cond b (Fault left_out 0) (whole_token (is_small 10 piece) (length piece - 1))) (ap (λ (b : Bool). is_fraction rest || b) e ∙ or-true (is_fraction rest))
-  where
-    or-true : (b : Bool) → (b || true) ≡ true
-    or-true true = refl
-    or-true false = refl
-left_out-numeral piece rest l (IsLeftOutNumeral.great w s) =
-    longest-decimal piece rest w l
-    ∙ ap (λ (b : Bool). cond (is_fraction rest || is_exponent rest) (Fault left_out 0) (whole_token b (length piece - 1))) s
+    ∙ ap (λ (b : Bool). cond (is_fraction rest || is_exponent rest) (Fault left_out 0) (whole_token b (length piece - 1))) (if-most _ _ most)
     ∙ either (is_fraction rest || is_exponent rest)
-  where
-    either : (b : Bool) → cond b (Fault left_out 0) (Fault left_out 0) ≡ Fault left_out 0
-    either true = refl
-    either false = refl
-left_out-numeral piece rest l (IsLeftOutNumeral.great_hexadecimal w s) = longest-hexadecimal piece rest w l ∙ ap (λ (b : Bool). whole_token b (length piece - 1)) s
+left_out-numeral piece rest l (IsLeftOutNumeral.great_hexadecimal w most) = longest-hexadecimal piece rest w l ∙ ap (λ (b : Bool). whole_token b (length piece - 1)) (if-most _ _ most)
 
 -- strings
 

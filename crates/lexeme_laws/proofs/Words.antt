@@ -7,24 +7,25 @@ use Rattle.vdm_lexer.specs.Words.{word_front, word_token}
 use Rattle.vdm_lexer.specs.Written.{kind_in, words}
 use Rattle.lexeme_laws.specs.Longest.{AreAll, IsLongest}
 use Rattle.lexeme_laws.specs.Literals.{IsWord}
+use Rattle.lexeme_laws.proofs.Alphabet.{letter-in, word-in, word-out}
 use Rattle.lexeme_laws.proofs.Runs.{Stops, all-append, all-behind, run-length, run-all, run-stops, stops-longest, longest-stops}
 
 -- a word goes on with characters of words alone
 word-on : (letter : ℕ) (others : List ℕ) (c : ℕ) (more : List ℕ) → IsWord ((letter ∷ others) ++ c ∷ more) → is_of_word c ≡ true
 word-on letter others c more w =
     let rest : others ++ c ∷ more ≡ w.others = ap (drop 1) w.is in
-    let all = subst (AreAll is_of_word) (sym rest) w.of_word in
+    let all = subst (AreAll is_of_word) (sym rest) (word-out w.others w.of_word) in
     (all-behind is_of_word others (c ∷ more) all).0
 
 pub word-longest : (letter : ℕ) (others rest : List ℕ) → is_letter letter ≡ true → AreAll is_of_word others → Stops is_of_word rest → IsLongest IsWord (letter ∷ others) rest
 word-longest letter others rest first all stops =
-    longest-stops is_of_word IsWord (letter ∷ others) rest (record { letter = letter; others = others; is = refl; first = first; of_word = all }) stops (word-on letter others)
+    longest-stops is_of_word IsWord (letter ∷ others) rest (record { letter = letter; others = others; is = refl; first = letter-in letter first; of_word = word-in others all }) stops (word-on letter others)
 
 -- what stands behind the longest word
 pub word-stops : (letter : ℕ) (others rest : List ℕ) → is_letter letter ≡ true → AreAll is_of_word others → IsLongest IsWord (letter ∷ others) rest → Stops is_of_word rest
 word-stops letter others rest first all l =
     stops-longest is_of_word IsWord (letter ∷ others) rest l
-    (λ c passes. record { letter = letter; others = others ++ c ∷ []; is = refl; first = first; of_word = all-append is_of_word others (c ∷ []) all (passes, tt) })
+    (λ c passes. record { letter = letter; others = others ++ c ∷ []; is = refl; first = letter-in letter first; of_word = word-in (others ++ c ∷ []) (all-append is_of_word others (c ∷ []) all (passes, tt)) })
 
 -- what the reading takes of a text whose first character is a letter
 pub word-taken : (c : ℕ) (cs : List ℕ) → take (prefix_len is_of_word cs + 1) (c ∷ cs) ≡ c ∷ take (prefix_len is_of_word cs) cs

@@ -31,15 +31,18 @@ pub data IsLexFault (text : List ℕ) (n : ℕ) : Type 0 where
   comment : (behind : List ℕ) → text ≡ codes "/*" ++ behind → NoFront IsBlockComment text → n ≡ 0 → IsLexFault text n
   string : (behind : List ℕ) → text ≡ 34 ∷ behind → (IsClosed 34 behind → ⊥) → n ≡ 0 → IsLexFault text n
   string_escape : (front : List ℕ) → IsRefusedString text front → n ≡ length front + 1 → IsLexFault text n
-  character : (behind : List ℕ) → text ≡ 39 ∷ behind → NoFront IsCharacter text → (IsRefusedCharacter text → ⊥) → n ≡ 0 → IsLexFault text n
+  character : (behind : List ℕ) → text ≡ 39 ∷ behind → NoFront IsCharacter text → (IsRefusedCharacter text → ⊥) → n ≡ 0
+      → IsLexFault text n
   character_escape : IsRefusedCharacter text → n ≡ 1 → IsLexFault text n
   begin : (behind : List ℕ) → text ≡ codes "\\begin{" ++ behind → n ≡ 0 → IsLexFault text n
   other : (c : ℕ) (behind : List ℕ) → text ≡ c ∷ behind → IsSignPlace text → NoFront IsSign text → n ≡ 0 → IsLexFault text n
 
 -- the longest word, numeral or sign that stands there is left out of the language
 pub data IsLeftOut (text : List ℕ) : Type 0 where
-  word : (piece rest : List ℕ) → text ≡ piece ++ rest → IsLongest IsWord piece rest → kind_in piece words ≡ Some written.LeftOut → IsLeftOut text
-  numeral : (piece rest : List ℕ) → text ≡ piece ++ rest → IsLongest IsNumeral piece rest → IsLeftOutNumeral piece rest → IsLeftOut text
+  word : (piece rest : List ℕ) → text ≡ piece ++ rest → IsLongest IsWord piece rest
+      → kind_in piece words ≡ Some written.LeftOut → IsLeftOut text
+  numeral : (piece rest : List ℕ) → text ≡ piece ++ rest → IsLongest IsNumeral piece rest
+      → IsLeftOutNumeral piece rest → IsLeftOut text
   sign : (piece rest : List ℕ) → text ≡ piece ++ rest → IsSignPlace text → IsLongest IsSign piece rest
       → kind_in piece signs ≡ Some written.LeftOut → IsLeftOut text
 

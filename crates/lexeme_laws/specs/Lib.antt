@@ -1,3 +1,4 @@
+pub mod Alphabet
 pub mod Longest
 pub mod Spaces
 pub mod Numerals

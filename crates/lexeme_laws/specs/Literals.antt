@@ -1,7 +1,7 @@
 -- Words, and what stands between signs of its own: strings, characters, quotes. `"` is 34, `'` 39, `<` 60, `>` 62, `\` 92.
-use Rattle.std.specs.Prelude.{◌≡◌, ℕ, ◌==◌, true, false, List, [], ◌∷◌, ◌++◌}
-use Rattle.vdm_lexer.specs.Characters.{is_hexadecimal, is_letter, is_of_word}
-use Rattle.vdm_lexer.specs.Escapes.{is_plain_escape, is_scalar}
+use Rattle.std.specs.Prelude.{◌≡◌, ℕ, ◌<◌, ◌⊎◌, ◌==◌, true, false, List, [], ◌∷◌, ◌++◌}
+use Rattle.std.specs.Str.Parse.{digits_value}
+use Rattle.lexeme_laws.specs.Alphabet.{is_hexadecimal_digit, begins_word, is_in_word, is_escaped_alone}
 use Rattle.lexeme_laws.specs.Longest.{AreAll, IsMadeOf}
 
 -- a letter, and characters that may follow in an identifier
@@ -9,15 +9,19 @@ pub record IsWord (piece : List ℕ) : Type 0 where
   pub letter : ℕ
   pub others : List ℕ
   pub is : piece ≡ letter ∷ others
-  pub first : is_letter letter ≡ true
-  pub of_word : AreAll is_of_word others
+  pub first : begins_word letter ≡ true
+  pub of_word : AreAll is_in_word others
+
+-- the number of a character: those from D800 to DFFF are none
+abbrev pub IsScalar : ℕ → Type 0
+IsScalar n = (n < 0xd800) ⊎ (0xdfff < n)
 
 -- `\` and a character that makes an escape alone; or `x` (120) and two hexadecimal digits; or `u` (117) and four that give a character
 pub data IsEscape (piece : List ℕ) : Type 0 where
-  plain : (c : ℕ) → piece ≡ 92 ∷ c ∷ [] → is_plain_escape c ≡ true → IsEscape piece
-  two : (a b : ℕ) → piece ≡ 92 ∷ 120 ∷ a ∷ b ∷ [] → AreAll is_hexadecimal (a ∷ b ∷ []) → IsEscape piece
-  four : (a b c d : ℕ) → piece ≡ 92 ∷ 117 ∷ a ∷ b ∷ c ∷ d ∷ [] → AreAll is_hexadecimal (a ∷ b ∷ c ∷ d ∷ [])
-      → is_scalar (a ∷ b ∷ c ∷ d ∷ []) ≡ true → IsEscape piece
+  plain : (c : ℕ) → piece ≡ 92 ∷ c ∷ [] → is_escaped_alone c ≡ true → IsEscape piece
+  two : (a b : ℕ) → piece ≡ 92 ∷ 120 ∷ a ∷ b ∷ [] → AreAll is_hexadecimal_digit (a ∷ b ∷ []) → IsEscape piece
+  four : (a b c d : ℕ) → piece ≡ 92 ∷ 117 ∷ a ∷ b ∷ c ∷ d ∷ [] → AreAll is_hexadecimal_digit (a ∷ b ∷ c ∷ d ∷ [])
+      → IsScalar (digits_value 16 (a ∷ b ∷ c ∷ d ∷ [])) → IsEscape piece
 
 -- what stands for one character in a literal: a character but `\`, or an escape
 pub data IsUnit (piece : List ℕ) : Type 0 where

@@ -1,7 +1,7 @@
 -- Numerals.
-use Rattle.std.specs.Prelude.{◌≡◌, ℕ, true, false, List, ◌∷◌, ◌++◌, codes, drop}
-use Rattle.vdm_lexer.specs.Characters.{is_decimal, is_hexadecimal}
-use Rattle.vdm_lexer.specs.Numerals.{is_small, is_fraction, is_exponent}
+use Rattle.std.specs.Prelude.{◌≡◌, ℕ, ◌^◌, ◌<◌, ◌≤◌, ◌⊎◌, true, List, ◌∷◌, ◌++◌, codes, drop}
+use Rattle.std.specs.Str.Parse.{digits_value}
+use Rattle.lexeme_laws.specs.Alphabet.{is_decimal_digit, is_hexadecimal_digit}
 use Rattle.lexeme_laws.specs.Longest.{AreAll}
 
 -- a decimal digit or more
@@ -9,27 +9,40 @@ pub record IsDecimal (piece : List ℕ) : Type 0 where
   pub digit : ℕ
   pub others : List ℕ
   pub is : piece ≡ digit ∷ others
-  pub all : AreAll is_decimal (digit ∷ others)
+  pub all : AreAll is_decimal_digit (digit ∷ others)
 
 -- `0x` and a hexadecimal digit or more
 pub record IsHexadecimal (piece : List ℕ) : Type 0 where
   pub digit : ℕ
   pub others : List ℕ
   pub is : piece ≡ codes "0x" ++ (digit ∷ others)
-  pub all : AreAll is_hexadecimal (digit ∷ others)
+  pub all : AreAll is_hexadecimal_digit (digit ∷ others)
 
 pub data IsNumeral (piece : List ℕ) : Type 0 where
   decimal : IsDecimal piece → IsNumeral piece
   hexadecimal : IsHexadecimal piece → IsNumeral piece
 
--- a numeral for at most 2^127 - 1, behind which no fraction and no exponent goes on
+-- `e` (101) or `E` (69); `+` (43) or `-` (45)
+abbrev pub IsE : ℕ → Type 0
+IsE c = (c ≡ 101) ⊎ (c ≡ 69)
+
+abbrev pub IsPlusOrMinus : ℕ → Type 0
+IsPlusOrMinus c = (c ≡ 43) ⊎ (c ≡ 45)
+
+-- behind decimal digits a fraction or an exponent goes on: `.` (46) and a digit, or `e`, a sign or none, and a digit
+pub data GoesOn (rest : List ℕ) : Type 0 where
+  fraction : (digit : ℕ) (behind : List ℕ) → rest ≡ 46 ∷ digit ∷ behind → is_decimal_digit digit ≡ true → GoesOn rest
+  exponent : (e digit : ℕ) (behind : List ℕ) → rest ≡ e ∷ digit ∷ behind → IsE e → is_decimal_digit digit ≡ true → GoesOn rest
+  signed : (e sign digit : ℕ) (behind : List ℕ) → rest ≡ e ∷ sign ∷ digit ∷ behind → IsE e → IsPlusOrMinus sign
+      → is_decimal_digit digit ≡ true → GoesOn rest
+
+-- a numeral for at most 2^127 - 1, behind which nothing of it goes on
 pub data IsWhole (piece rest : List ℕ) : Type 0 where
-  decimal : IsDecimal piece → is_fraction rest ≡ false → is_exponent rest ≡ false → is_small 10 piece ≡ true → IsWhole piece rest
-  hexadecimal : IsHexadecimal piece → is_small 16 (drop 2 piece) ≡ true → IsWhole piece rest
+  decimal : IsDecimal piece → (GoesOn rest → ⊥) → digits_value 10 piece < 2 ^ 127 → IsWhole piece rest
+  hexadecimal : IsHexadecimal piece → digits_value 16 (drop 2 piece) < 2 ^ 127 → IsWhole piece rest
 
 -- a numeral that is left out of the language: it goes on as a fraction or with an exponent, or it is too great
 pub data IsLeftOutNumeral (piece rest : List ℕ) : Type 0 where
-  fraction : IsDecimal piece → is_fraction rest ≡ true → IsLeftOutNumeral piece rest
-  exponent : IsDecimal piece → is_exponent rest ≡ true → IsLeftOutNumeral piece rest
-  great : IsDecimal piece → is_small 10 piece ≡ false → IsLeftOutNumeral piece rest
-  great_hexadecimal : IsHexadecimal piece → is_small 16 (drop 2 piece) ≡ false → IsLeftOutNumeral piece rest
+  longer : IsDecimal piece → GoesOn rest → IsLeftOutNumeral piece rest
+  great : IsDecimal piece → 2 ^ 127 ≤ digits_value 10 piece → IsLeftOutNumeral piece rest
+  great_hexadecimal : IsHexadecimal piece → 2 ^ 127 ≤ digits_value 16 (drop 2 piece) → IsLeftOutNumeral piece rest

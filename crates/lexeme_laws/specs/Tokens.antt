@@ -4,9 +4,9 @@ use Rattle.std.specs.List.{IsAmong}
 use Rattle.vdm_lexer.specs.declared.lexeme.LexKind.{LexKind}
 use Rattle.vdm_lexer.specs.declared.lexeme.LexKind.TheVariants.{Identifier, Whole, Character, Text, Quote, Reserved, Sign, End}
 use Rattle.vdm_lexer.specs.declared.written.WrittenKind.TheVariants as written
-use Rattle.vdm_lexer.specs.Characters.{is_blank, is_decimal, is_letter}
 use Rattle.vdm_lexer.specs.Pieces.{first, begins}
 use Rattle.vdm_lexer.specs.Written.{kind_in, words, signs, sign_texts}
+use Rattle.lexeme_laws.specs.Alphabet.{is_white, is_decimal_digit, begins_word}
 use Rattle.lexeme_laws.specs.Literals.{IsWord, IsString, IsCharacter, IsQuote}
 use Rattle.lexeme_laws.specs.Longest.{IsLongest, NoFront}
 use Rattle.lexeme_laws.specs.Numerals.{IsNumeral, IsWhole}
@@ -17,11 +17,11 @@ IsSign piece = IsAmong sign_texts piece
 
 -- a text that begins with nothing but a sign may: no blank, comment, word, numeral, character, string or quote
 pub record IsSignPlace (text : List ℕ) : Type 0 where
-  pub blank : is_blank (first text) ≡ false
+  pub blank : is_white (first text) ≡ false
   pub line : begins text (codes "--") ≡ false
   pub block : begins text (codes "/*") ≡ false
-  pub letter : is_letter (first text) ≡ false
-  pub digit : is_decimal (first text) ≡ false
+  pub letter : begins_word (first text) ≡ false
+  pub digit : is_decimal_digit (first text) ≡ false
   pub character : (first text == 39) ≡ false
   pub string : (first text == 34) ≡ false
   pub quote : NoFront IsQuote text

@@ -17,7 +17,8 @@ abbrev pub quote_or_sign : Option ℕ → List ℕ → Front
 quote_or_sign None text = sign_front text
 quote_or_sign (Some more) text = Token Quote more
 
--- a token of a text by its first character, where neither white space nor a comment stands there: `'` (39), `"` (34), `<` (60), or else a sign
+-- a token of a text by its first character, where neither white space nor a comment stands there: `'` (39), `"` (34), `<` (60), or
+-- else a sign
 abbrev pub token_front : List ℕ → Front
 token_front text =
     if is_letter (first text) then word_front text

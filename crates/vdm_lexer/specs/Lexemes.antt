@@ -58,7 +58,8 @@ mark_length text = if first text == 0xfeff then 1 else 0
 -- the lexemes of the characters of a text, of which so many stand before the first byte that is not UTF-8
 abbrev pub lexemes_of : Part → ℕ → List ℕ → Reading
 lexemes_of part good text =
-    lexemes_behind (good - mark_length text) (record { offset = 3 * mark_length text; place = start_of part }) zero (drop (mark_length text) text)
+    lexemes_behind (good - mark_length text) (record { offset = 3 * mark_length text; place = start_of part }) zero
+    (drop (mark_length text) text)
 
 -- how many bytes a text may have
 abbrev pub limit_of : Part → ℕ

@@ -21,7 +21,8 @@ whole_token small more = if small then Token Whole more else Fault LeftOut 0
 abbrev pub hexadecimal_front : List ℕ → Front
 hexadecimal_front digits = whole_token (is_small 16 digits) (length digits + 1)
 
--- whether a text goes on from digits as a fraction or as an exponent: `.` (46) and a digit; or `e` (101) or `E` (69), `+` (43) or `-` (45) or neither, and a digit
+-- whether a text goes on from digits as a fraction or as an exponent: `.` (46) and a digit; or `e` (101) or `E` (69), `+` (43) or
+-- `-` (45) or neither, and a digit
 abbrev pub is_fraction : List ℕ → Bool
 is_fraction text = first text == 46 && is_decimal (first (drop 1 text))
 

@@ -1,5 +1,6 @@
 -- What stands between signs of its own: strings, characters, quotes.
-use Rattle.std.specs.Prelude.{ℕ, ◌+◌, Bool, false, ◌&&◌, ◌==◌, not, if◌then◌else◌, List, [], ◌∷◌, drop, take, Option, Some, None, option_map}
+use Rattle.std.specs.Prelude.{ℕ, ◌+◌, Bool, false, ◌&&◌, ◌==◌, not, if◌then◌else◌, List, [], ◌∷◌, drop, take, Option, Some, None}
+use Rattle.std.specs.Prelude.{option_map}
 use Rattle.std.specs.Option.{is_some}
 use Rattle.std.specs.List.{prefix_len}
 use Rattle.vdm_kinds.specs.declared.spec_kind.SpecKind.TheVariants.{LexFault}
@@ -51,7 +52,8 @@ string_to behind (Some inside) = closed_string inside (refused_in (take inside b
 abbrev pub string_front : List ℕ → Front
 string_front behind = string_to behind (close_of 34 behind)
 
--- a character with so many characters between its signs (39 is `'`), of what stands behind the opening one; 1 LexFault where it is not closed
+-- a character with so many characters between its signs (39 is `'`), of what stands behind the opening one; 1 LexFault where it is
+-- not closed
 abbrev pub closed_character : ℕ → List ℕ → Front
 closed_character inside behind = if first (drop inside behind) == 39 then Token Character (inside + 1) else Fault LexFault 0
 
