@@ -22,9 +22,6 @@ all-among-at test (row ∷ rows) x (suc i) h short is = all-among-at test rows x
 all-among : (test : List ℕ → Bool) (table : List (List ℕ)) (x : List ℕ) → list_all test table ≡ true → IsAmong table x → test x ≡ true
 all-among test table x h among = all-among-at test table x among.0 h among.1.0 among.1.1
 
-has-some : List ℕ → Bool
-has-some text = nat_lt 0 (length text)
-
 pub sign-some : (piece : List ℕ) → IsSign piece → 0 < length piece
 sign-some piece sign = let h : nat_lt 0 (length piece) ≡ true = all-among (λ (t : List ℕ). nat_lt 0 (length t)) sign_texts piece refl sign in grind (arith, nat_tests)
 
