@@ -10,7 +10,7 @@ use Rattle.run_journal.specs.declared.entry.Entry.{Entry}
 use Rattle.run_journal.specs.declared.question.Question.{Question}
 use Rattle.run_journal.specs.declared.thread.Thread.{Thread}
 use Rattle.run_journal.specs.declared.thread.Thread.TheVariants.{Main}
-use Rattle.run_journal.specs.Laws.{EveryEntryGivesBack, GivesBack, MadeWhereFits}
+use Rattle.journal_entries.specs.Laws.{EveryEntryGivesBack, GivesBack, MadeWhereFits}
 use Rattle.run_journal.specs.Made.{answer_of, made}
 use Rattle.run_journal.specs.Parts.{is_by, thread_part}
 use Rattle.run_journal.specs.Threads.{is_thread}

@@ -6,7 +6,7 @@ use Rattle.abstract_syntax.specs.Classes.{SpecTree}
 use Rattle.abstract_syntax.specs.Expressions.{ExprTree}
 use Rattle.run_journal.specs.declared.answer.Answer.{Answer}
 use Rattle.run_journal.specs.declared.entry.Entry.{Entry}
-use Rattle.run_journal.specs.Laws.{EveryEntryGivesBack, MadeWhereFits}
+use Rattle.journal_entries.specs.Laws.{EveryEntryGivesBack, MadeWhereFits}
 use Rattle.run_journal.specs.Made.{answer_of}
 use Rattle.vdm_meaning.specs.Main.{Standing, over, main_code}
 use Rattle.vdm_meaning.specs.Runs.{IsLegal, AreLegal, IsRun}

@@ -5,6 +5,7 @@ ghost use Rattle.plain_meaning.specs.Asked.{IsAskedFor};
 ghost use Rattle.stmt_exec.specs.Standing.{rest};
 
 use crate::given::answer_of;
+use journal_entries::{entry_made, same_entry};
 use run_journal::{Entry, Thread};
 use std::alloc::Global;
 use stmt_exec::Machine;
@@ -24,8 +25,8 @@ pub(crate) fn is_asked_for(
     }
     let question = machine.next(alloc)?;
     let answer = answer_of(alloc, entry)?;
-    match Entry::made(Thread::Main, question, answer) {
-        Some(made) => Ok(made.equals(entry)),
+    match entry_made(Thread::Main, question, answer) {
+        Some(made) => Ok(same_entry(&made, entry)),
         None => Ok(false),
     }
 }

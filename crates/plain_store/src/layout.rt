@@ -8,7 +8,8 @@ ghost use Rattle.vdm_tree.specs.ClassView.{block_view, class_view, spec_view, va
 ghost use Rattle.plain_store.specs.Layout.{found_or_behind};
 
 use crate::writes::is_same_variable;
-use run_journal::{Deed, EntryList, of_object};
+use journal_entries::of_object;
+use run_journal::{Deed, EntryList};
 use vdm_kinds::{Name, VarRef};
 use vdm_tree::{Block, ClassDef, Spec, VarDef};
 use vdm_values::Slot;

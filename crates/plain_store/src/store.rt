@@ -4,6 +4,7 @@ ghost use Rattle.std.specs.Prelude.{◌≡◌};
 ghost use Rattle.vdm_meaning.specs.Order.{above_all};
 
 use crate::state::state_of;
+use journal_entries::entry_made;
 use run_journal::{Answer, Deed, Entry, EntryList, Question, Thread};
 use std::alloc::Global;
 use vdm_kinds::{Name, OutOfMemory, VarRef};
@@ -116,7 +117,7 @@ impl Store {
         ensures entered { IfOk result (λ answer. IsEntered (spec_view spec.now) (journal self.old) question answer (journal self.new)) }
         ensures err { OnErr result (journal self.new ≡ journal self.old) }
     {
-        let Some(entry) = Entry::made(Thread::Main, question, Answer::Done) else {
+        let Some(entry) = entry_made(Thread::Main, question, Answer::Done) else {
             unreachable!()
         };
         self.enter(entry)?;

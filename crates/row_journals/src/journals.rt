@@ -2,12 +2,12 @@
 // or a thread. `is THREAD THREAD`: whether both are one. `own THREAD`: the number of its object. `same-entry`,
 // `same-question` and `same-deed`: whether two are one. `entries` and `answers`: a list, made and read.
 
-use crate::desk::JournalDesk;
-use crate::threads::thread_by;
-use row_words::{Read, Unreadable, Words, popped, push_shown, push_yes};
-use run_journal::{
-    Answer, AnswerList, Deed, EntriesOf, Entry, EntryList, Question, Thread, of_object, of_thread,
+use journal_entries::{
+    EntriesOf, entry_made, of_object, of_thread, same_deed, same_entry, same_question,
 };
+use row_desk::{JournalDesk, push_entries, push_made, thread_by};
+use row_words::{Read, Unreadable, Words, popped, push_shown, push_yes};
+use run_journal::{Answer, AnswerList, Deed, Entry, EntryList, Question, Thread};
 use std::alloc::Global;
 use std::fmt::Write;
 use std::mem;
@@ -32,9 +32,9 @@ pub(crate) fn answer(
     desk: &mut JournalDesk,
 ) -> Read<()> {
     match word {
-        "same-entry" => same_entry(out, desk.entries.as_slice()),
-        "same-question" => same_question(out, &desk.questions),
-        "same-deed" => same_deed(out, &desk.deeds),
+        "same-entry" => are_same_entry(out, desk.entries.as_slice()),
+        "same-question" => are_same_question(out, &desk.questions),
+        "same-deed" => are_same_deed(out, &desk.deeds),
         "entries" => entries(out, mem::replace(&mut desk.entries, EntryList::new(alloc))),
         "answers" => answers(out, desk.answers.split_off(0)?),
         _ => Err(Halt::Of(Unreadable)),
@@ -45,15 +45,7 @@ pub(crate) fn answer(
 pub(crate) fn made(out: &mut String, thread: Thread, desk: &mut JournalDesk) -> Read<()> {
     let question = popped(&mut desk.questions)?;
     let answer = popped(&mut desk.answers)?;
-    push_made(out, Entry::made(thread, question, answer))
-}
-
-/// Appends the entry that a question and an answer made, or that they made none.
-pub fn push_made(out: &mut String, made: Option<Entry>) -> Read<()> {
-    match made {
-        Some(entry) => Ok(push_shown(out, &entry)?),
-        None => Ok(out.push_str("no entry")?),
-    }
+    push_made(out, entry_made(thread, question, answer))
 }
 
 /// The entries of an object.
@@ -75,23 +67,23 @@ fn push_all(out: &mut String, part: EntriesOf<'_>) -> Read<()> {
     Ok(())
 }
 
-fn same_entry(out: &mut String, entries: &[Entry]) -> Read<()> {
+fn are_same_entry(out: &mut String, entries: &[Entry]) -> Read<()> {
     match entries {
-        [first, second] => Ok(push_yes(out, first.equals(second))?),
+        [first, second] => Ok(push_yes(out, same_entry(first, second))?),
         _ => Err(Halt::Of(Unreadable)),
     }
 }
 
-fn same_question(out: &mut String, questions: &[Question]) -> Read<()> {
+fn are_same_question(out: &mut String, questions: &[Question]) -> Read<()> {
     match questions {
-        [first, second] => Ok(push_yes(out, first.equals(second))?),
+        [first, second] => Ok(push_yes(out, same_question(first, second))?),
         _ => Err(Halt::Of(Unreadable)),
     }
 }
 
-fn same_deed(out: &mut String, deeds: &[Deed]) -> Read<()> {
+fn are_same_deed(out: &mut String, deeds: &[Deed]) -> Read<()> {
     match deeds {
-        [first, second] => Ok(push_yes(out, first.equals(second))?),
+        [first, second] => Ok(push_yes(out, same_deed(first, second))?),
         _ => Err(Halt::Of(Unreadable)),
     }
 }
@@ -103,15 +95,6 @@ fn entries(out: &mut String, list: EntryList) -> Read<()> {
     write!(out, "{count}")?;
     out.push_str(if list.is_empty() { ", empty" } else { "" })?;
     push_entries(out, &list)
-}
-
-/// Appends entries, each behind `; `.
-pub fn push_entries(out: &mut String, entries: &EntryList) -> Read<()> {
-    for entry in entries.as_slice() {
-        out.push_str("; ")?;
-        push_shown(out, entry)?;
-    }
-    Ok(())
 }
 
 fn answers(out: &mut String, answers: Vec<Answer>) -> Read<()> {

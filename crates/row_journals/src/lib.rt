@@ -4,17 +4,11 @@
 //! stands on a desk that the program owns and lends.
 #![tactic(auto)]
 
-mod answers;
-mod deeds;
-mod desk;
 mod journals;
-mod threads;
 
-pub use desk::JournalDesk;
-pub use journals::{push_entries, push_made};
+use row_desk::{JournalDesk, thread_by};
 use row_words::{Read, Words, push_names};
 use std::alloc::Global;
-use threads::thread_by;
 
 /// Appends the answer to a request. A word that is none is unreadable.
 pub fn answer(

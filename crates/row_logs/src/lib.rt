@@ -6,7 +6,7 @@
 mod logs;
 mod numbers;
 
-use row_journals::JournalDesk;
+use row_desk::JournalDesk;
 use row_words::{Read, Words, push_names};
 use std::alloc::Global;
 

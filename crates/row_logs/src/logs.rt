@@ -4,7 +4,7 @@
 
 use crate::numbers::{has_log_line, have_log_lines, is_number, is_number_slot};
 use log_printer::{log_line, report_text};
-use row_journals::JournalDesk;
+use row_desk::JournalDesk;
 use row_words::{Read, Unreadable, push_bytes};
 use run_journal::{Entry, EntryList};
 use std::alloc::Global;

@@ -3,12 +3,11 @@
 //! A request is a word and the words behind it; the head of each module says which words it answers.
 #![tactic(auto)]
 
-mod desk;
 mod stores;
 mod tokens;
 mod trees;
 
-pub use desk::RunDesk;
+use row_trees::RunDesk;
 use row_words::{Read, Words};
 use std::alloc::Global;
 

@@ -1,10 +1,10 @@
 // `store`: the answers of the plain store to the questions in turn, where each may be answered, and the entries. `held N`:
 // what the variable of the object holds behind the entries; its class and its name are the last two names.
 
-use crate::desk::RunDesk;
 use plain_legal::is_ready;
 use plain_store::{Store, state_of};
-use row_journals::push_entries;
+use row_desk::push_entries;
+use row_trees::RunDesk;
 use row_words::{Read, Words, push_names, push_shown};
 use run_journal::Question;
 use std::alloc::Global;

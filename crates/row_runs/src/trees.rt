@@ -1,12 +1,12 @@
 // `tree`: the last tree. `spec TEXT`: a specification, or its refusal. `accepts TEXT`: whether it is one. `expr TEXT`: the
 // tree of an expression behind a specification, or its refusal. `terms`: how many terms the last tree has.
 
-use crate::desk::RunDesk;
 use first_reader::read_specification;
-use row_words::{Read, Unreadable, Words, last, popped, push_names, push_refused, push_shown};
+use row_trees::RunDesk;
+use row_words::{Read, Words, push_names, push_refused, push_shown};
 use std::alloc::Global;
 use std::fmt::Write;
-use vdm_kinds::{Halt, Operator, Part, SpecFault};
+use vdm_kinds::{Halt, SpecFault};
 use vdm_names::Names;
 use vdm_tree::Expr;
 
@@ -27,48 +27,6 @@ pub(crate) fn answer(
         }
     }
     Ok(push_names(out, &desk.journal.values.names)?)
-}
-
-/// The tree that stands next. Its places are in the expression.
-pub(crate) fn tree_by(alloc: Global, desk: &mut RunDesk, words: &mut Words<'_>) -> Read<Expr> {
-    match words.word() {
-        "whole" => Ok(Expr::whole(words.integer()?, words.spot(Part::Expr)?)),
-        "name" => Ok(Expr::name(desk.journal.values.name(words)?, words.spot(Part::Expr)?)),
-        "plus" => sum(alloc, &mut desk.trees, words),
-        "apply" => application(alloc, &mut desk.trees, words),
-        "new" => creation(desk, words),
-        "select" => selection(alloc, desk, words),
-        _ => Err(Halt::Of(Unreadable)),
-    }
-}
-
-fn sum(alloc: Global, trees: &mut Vec<Expr>, words: &mut Words<'_>) -> Read<Expr> {
-    let place = words.spot(Part::Expr)?;
-    let right = popped(trees)?;
-    let left = popped(trees)?;
-    Ok(Expr::infix(alloc, left, Operator::Plus, right, place)?)
-}
-
-fn application(alloc: Global, trees: &mut Vec<Expr>, words: &mut Words<'_>) -> Read<Expr> {
-    let count = words.count()?;
-    let place = words.spot(Part::Expr)?;
-    let arguments = last(trees, count)?;
-    Ok(Expr::apply(alloc, popped(trees)?, arguments, place)?)
-}
-
-fn creation(desk: &mut RunDesk, words: &mut Words<'_>) -> Read<Expr> {
-    let class = desk.journal.values.name(words)?;
-    let class_place = words.spot(Part::Expr)?;
-    let count = words.count()?;
-    let place = words.spot(Part::Expr)?;
-    Ok(Expr::create(class, class_place, last(&mut desk.trees, count)?, place))
-}
-
-fn selection(alloc: Global, desk: &mut RunDesk, words: &mut Words<'_>) -> Read<Expr> {
-    let name = desk.journal.values.name(words)?;
-    let name_place = words.spot(Part::Expr)?;
-    let place = words.spot(Part::Expr)?;
-    Ok(Expr::select(alloc, popped(&mut desk.trees)?, name, name_place, place)?)
 }
 
 fn push_tree(out: &mut String, word: &str, tree: &Expr) -> Read<()> {

@@ -4,7 +4,6 @@
 //! stands on a desk that the program owns and lends.
 #![tactic(auto)]
 
-mod desk;
 mod insertion;
 mod kinds;
 mod lexemes;
@@ -12,7 +11,7 @@ mod sets;
 mod times;
 mod values;
 
-pub use desk::ValueDesk;
+use row_desk::ValueDesk;
 use row_words::{Read, Words, push_names};
 use std::alloc::Global;
 pub use times::push_time;

@@ -2,9 +2,9 @@
 // nodes and levels of it. A refusal is told by its number and name. `insertion` and `insertion-of-pairs`: how many the
 // plain program leaves, which inserts one after another, and whether the set or map has these.
 
-use crate::desk::pairs_of;
 use crate::insertion::rising_by_insertion;
 use crate::values::push_size;
+use row_desk::pairs_of;
 use row_words::{Read, push_shown};
 use std::alloc::Global;
 use std::fmt::Write;

@@ -3,7 +3,7 @@
 // whether the two are one. `taken V`: the value that its node makes. `size V`: nodes and levels. `list V ..`, `pairs V ..`
 // of tuples of two, `slots S ..`: a list made, copied, compared and read.
 
-use crate::desk::{ValueDesk, pairs_of};
+use row_desk::{ValueDesk, pairs_of};
 use row_words::{Read, Unreadable, popped, push_shown, push_yes};
 use std::alloc::Global;
 use std::cmp::Ordering;

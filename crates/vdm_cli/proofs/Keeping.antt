@@ -12,11 +12,12 @@ use Rattle.vdm_meaning.specs.Main.{step_limit}
 use Rattle.vdm_meaning.specs.Order.{IsInOrder}
 use Rattle.vdm_meaning.specs.Runs.{IsRun}
 use Rattle.report_texts.specs.Words.{IsRunCommand, IsNoCommand}
-use Rattle.vdm_cli.specs.declared.end.End.{End}
-use Rattle.vdm_cli.specs.declared.end.End.TheVariants.{Ended, Refused, Usage, Failed, ReadFault, WriteFault, OutOfMemory}
-use Rattle.vdm_cli.specs.Ends.{finish_in}
-use Rattle.vdm_cli.specs.Meant.{Outside, IsFaulty, WasRead, Runs, MeansRun, MeansUsage, Means}
-use Rattle.vdm_cli.specs.Written.{Wrote}
+use Rattle.vdm_report.specs.declared.end.End.{End}
+use Rattle.vdm_report.specs.declared.end.End.TheVariants.{Ended, Refused, Usage, Failed, ReadFault, WriteFault, OutOfMemory}
+use Rattle.vdm_report.specs.Ends.{finish_in}
+use Rattle.vdm_report.specs.Outside.{Outside, IsFaulty}
+use Rattle.vdm_cli.specs.Meant.{WasRead, Runs, MeansRun, MeansUsage, Means}
+use Rattle.vdm_report.specs.Written.{Wrote}
 use Rattle.vdm_cli.specs.Headline.{StandsFor, RunsText, RunsOfRead, KeepsTexts, KeepsJournal}
 
 -- what was written stands for what is meant

@@ -19,11 +19,12 @@ use Rattle.vdm_meaning.specs.Runs.{IsRun, Finish, ended, failed, decided, first_
 use Rattle.vdm_tree.specs.declared.class_def.ClassDef.{ClassDef}
 use Rattle.vdm_tree.specs.ClassView.{class_view}
 use Rattle.report_texts.specs.Log.{HasLogLine}
-use Rattle.vdm_cli.specs.declared.end.End.{End}
-use Rattle.vdm_cli.specs.declared.end.End.TheVariants.{Ended, Refused, Usage, Failed, ReadFault, WriteFault, OutOfMemory}
+use Rattle.vdm_report.specs.declared.end.End.{End}
+use Rattle.vdm_report.specs.declared.end.End.TheVariants.{Ended, Refused, Usage, Failed, ReadFault, WriteFault, OutOfMemory}
 use Rattle.report_texts.specs.Words.{IsRunCommand}
-use Rattle.vdm_cli.specs.Meant.{Outside, IsCalm, WasRead, MeansTexts, Means}
-use Rattle.vdm_cli.specs.Ends.{HasReportLine}
+use Rattle.vdm_report.specs.Outside.{Outside, IsCalm}
+use Rattle.vdm_cli.specs.Meant.{WasRead, MeansTexts, Means}
+use Rattle.vdm_report.specs.Ends.{HasReportLine}
 use Rattle.vdm_cli.specs.RunEnds.{RunsTo, EndsRun}
 
 -- no class, or one

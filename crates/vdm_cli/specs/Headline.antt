@@ -10,11 +10,12 @@ use Rattle.vdm_meaning.specs.Order.{IsInOrder}
 use Rattle.vdm_meaning.specs.Runs.{IsRun}
 use Rattle.vdm_outside.specs.Reading.{ConsumesAtMost}
 use Rattle.report_texts.specs.Words.{IsRunCommand, IsNoCommand}
-use Rattle.vdm_cli.specs.declared.end.End.{End}
-use Rattle.vdm_cli.specs.declared.end.End.TheVariants.{Refused, Usage, ReadFault, WriteFault, OutOfMemory}
-use Rattle.vdm_cli.specs.Ends.{finish_in}
-use Rattle.vdm_cli.specs.Meant.{Outside, IsCalm, IsFaulty, IsUntouched, WasRead, Runs, Means}
-use Rattle.vdm_cli.specs.Written.{Wrote}
+use Rattle.vdm_report.specs.declared.end.End.{End}
+use Rattle.vdm_report.specs.declared.end.End.TheVariants.{Refused, Usage, ReadFault, WriteFault, OutOfMemory}
+use Rattle.vdm_report.specs.Ends.{finish_in}
+use Rattle.vdm_report.specs.Outside.{Outside, IsCalm, IsFaulty, IsUntouched}
+use Rattle.vdm_cli.specs.Meant.{WasRead, Runs, Means}
+use Rattle.vdm_report.specs.Written.{Wrote}
 
 -- a write fault and want of memory may stand in place of the end that is meant
 abbrev pub StandsFor : End → End → Type 0

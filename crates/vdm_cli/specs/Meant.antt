@@ -7,36 +7,11 @@ use Rattle.vdm_grammar.specs.Texts.{IsAccepted, IsFirstRefusal, spec_limit}
 use Rattle.vdm_meaning.specs.Main.{step_limit}
 use Rattle.vdm_meaning.specs.Order.{IsInOrder}
 use Rattle.vdm_meaning.specs.Runs.{Finish, ended, failed, IsRun, finish_of}
-use Rattle.vdm_outside.specs.Counts.{Rose}
 use Rattle.vdm_outside.specs.Reading.{AreFirst}
 use Rattle.report_texts.specs.Words.{IsRunCommand, IsNoCommand}
-use Rattle.vdm_cli.specs.declared.end.End.{End}
-use Rattle.vdm_cli.specs.declared.end.End.TheVariants.{Ended, Refused, Usage, Failed, ReadFault, OutOfMemory}
-
--- A source or a sink before and after a call: the bytes that it has left or holds, where it tells them, and its count
--- of faults.
-pub record Outside : Type 0 where
-  pub before : Option (List ℕ)
-  pub after : Option (List ℕ)
-  pub faults_before : ℕ
-  pub faults_after : ℕ
-
--- what `told` and `faults` say of it before and after
-abbrev pub around : {S : Type 0} → (S → Option (List ℕ)) → (S → ℕ) → S → S → Outside
-around told faults before after =
-    record { before = told before; after = told after; faults_before = faults before; faults_after = faults after }
-
--- no call of it failed
-abbrev pub IsCalm : Outside → Type 0
-IsCalm o = o.faults_after ≡ o.faults_before
-
--- a call of it failed
-abbrev pub IsFaulty : Outside → Type 0
-IsFaulty o = Rose o.faults_before o.faults_after
-
--- nothing was taken from it or put into it
-abbrev pub IsUntouched : Outside → Type 0
-IsUntouched o = o.after ≡ o.before
+use Rattle.vdm_report.specs.Outside.{Outside, IsCalm, IsFaulty, IsUntouched}
+use Rattle.vdm_report.specs.declared.end.End.{End}
+use Rattle.vdm_report.specs.declared.end.End.TheVariants.{Ended, Refused, Usage, Failed, ReadFault, OutOfMemory}
 
 -- these bytes were read: all that was told, or one byte past the limit
 abbrev pub WasRead : Outside → List ℕ → Type 0

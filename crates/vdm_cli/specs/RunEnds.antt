@@ -8,9 +8,9 @@ use Rattle.vdm_meaning.specs.Main.{step_limit}
 use Rattle.vdm_meaning.specs.Order.{IsInOrder}
 use Rattle.vdm_meaning.specs.Runs.{IsRun, finish_of}
 use Rattle.report_texts.specs.Log.{HasLogLine}
-use Rattle.vdm_cli.specs.declared.end.End.{End}
-use Rattle.vdm_cli.specs.declared.end.End.TheVariants.{Ended, Failed, OutOfMemory}
-use Rattle.vdm_cli.specs.Ends.{finish_in, HasReportLine}
+use Rattle.vdm_report.specs.declared.end.End.{End}
+use Rattle.vdm_report.specs.declared.end.End.TheVariants.{Ended, Failed, OutOfMemory}
+use Rattle.vdm_report.specs.Ends.{finish_in, HasReportLine}
 
 -- the end is that of the journal's run; or memory was wanting
 abbrev pub EndsRun : List Entry → End → Type 0

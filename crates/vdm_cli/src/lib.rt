@@ -2,13 +2,6 @@
 #![tactic(auto)]
 
 mod command;
-mod end;
-mod last_line;
 mod meant;
-mod report;
 mod run;
 pub mod vdm_main;
-mod written;
-
-pub use end::End;
-pub use report::Report;

@@ -9,14 +9,14 @@ ghost use Rattle.vdm_grammar.specs.Texts.{IsAccepted, IsFirstRefusal};
 ghost use Rattle.vdm_tree.specs.ClassView.{spec_view};
 ghost use Rattle.vdm_tree.specs.View.{view_of};
 ghost use Rattle.report_texts.specs.Log.{HasLogLine};
-ghost use Rattle.vdm_cli.specs.Ends.{HasReportLine};
+ghost use Rattle.vdm_report.specs.Ends.{HasReportLine};
 ghost use Rattle.vdm_cli.specs.Headline.{KeepsReading};
-ghost use Rattle.vdm_cli.specs.Meant.{around, Means, MeansTexts};
+ghost use Rattle.vdm_report.specs.Outside.{around};
+ghost use Rattle.vdm_cli.specs.Meant.{Means, MeansTexts};
 ghost use Rattle.vdm_cli.specs.RunEnds.{RunsTo};
-ghost use Rattle.vdm_cli.specs.Named.{names_in};
+ghost use Rattle.vdm_report.specs.Named.{names_in};
 
 use crate::command::command_of;
-use crate::end::End;
 use crate::run::run;
 use first_reader::{SPEC_LIMIT, read_expression, read_specification};
 use run_journal::EntryList;
@@ -24,18 +24,8 @@ use std::alloc::Global;
 use vdm_kinds::{Halt, SpecFault};
 use vdm_names::Names;
 use vdm_outside::{Source, read_limited};
+use vdm_report::{End, Meant};
 use vdm_tree::{Expr, Spec};
-
-/// The end that a call means, where its report is left aside, and the journal of its run.
-#[derive(Drop)]
-pub struct Meant {
-    pub end: End,
-    pub journal: EntryList,
-    /// The names of the texts that ran, which the journal's names are numbers of. None where nothing ran.
-    pub names: Option<Names>,
-    /// Whether the log is asked for.
-    pub log: bool,
-}
 
 /// The trees of the two texts, and their names.
 #[derive(Drop)]

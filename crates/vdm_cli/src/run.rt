@@ -10,14 +10,14 @@ ghost use Rattle.vdm_meaning.specs.Runs.{finish_of};
 ghost use Rattle.report_texts.specs.Log.{HasLogLine};
 ghost use Rattle.vdm_tree.specs.ClassView.{spec_view};
 ghost use Rattle.vdm_tree.specs.View.{view_of};
-ghost use Rattle.vdm_cli.specs.Ends.{HasReportLine};
+ghost use Rattle.vdm_report.specs.Ends.{HasReportLine};
 ghost use Rattle.vdm_cli.specs.RunEnds.{RunsTo, EndsRun};
 
-use crate::end::End;
 use plain_store::{Finish, finish_of};
 use run_journal::{EntryList, Thread};
 use std::alloc::Global;
 use vdm_kinds::{OutOfMemory, Place, RunFault};
+use vdm_report::End;
 use vdm_tree::{Expr, Spec};
 use vdm_values::Slot;
 

@@ -2,15 +2,14 @@
 
 ghost use Rattle.std.specs.Prelude.{◌≡◌, map};
 ghost use Rattle.std.specs.String.{string_bytes};
-ghost use Rattle.vdm_cli.specs.Ends.{status_of};
+ghost use Rattle.vdm_report.specs.Ends.{status_of};
 ghost use Rattle.vdm_cli.specs.Headline.{KeepsWords, KeepsReading, KeepsTexts, KeepsJournal, KeepsEnd, KeepsOutput, KeepsCauses};
-ghost use Rattle.vdm_cli.specs.Meant.{around};
+ghost use Rattle.vdm_report.specs.Outside.{around};
 
 use crate::meant::meant_by;
-use crate::report::Report;
-use crate::written::written;
 use std::alloc::Global;
 use vdm_outside::{Sink, Source};
+use vdm_report::{Report, written};
 
 /// A whole call of the program: the words behind its name, the source that the specification is read from, and the
 /// sink that the report is written to. What it keeps is said clause by clause in `specs/Headline.antt`: its journal is

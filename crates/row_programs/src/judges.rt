@@ -1,0 +1,116 @@
+// `judge UNITS`: whether the entries are a run. `ordered`: whether they stand in the order of one lane. `finish`: how they
+// end. `run UNITS`: the entries of the run, and what these three say of them.
+
+use plain_meaning::{is_in_order, is_run};
+use plain_run::run;
+use plain_store::{Finish, finish_of};
+use row_desk::push_entries;
+use row_trees::RunDesk;
+use row_words::{Read, Words, push_names, push_shown};
+use run_journal::EntryList;
+use std::alloc::Global;
+use std::fmt::Write;
+
+pub(crate) fn answer(
+    alloc: Global,
+    out: &mut String,
+    word: &str,
+    words: &mut Words<'_>,
+    desk: &mut RunDesk,
+) -> Read<()> {
+    match word {
+        "judge" => judge(alloc, out, words, desk)?,
+        "run" => run_whole(alloc, out, words, desk)?,
+        _ => {
+            desk.read(alloc, words)?;
+            on_entries(out, word, desk)?;
+        }
+    }
+    Ok(push_names(out, &desk.journal.values.names)?)
+}
+
+fn judge(alloc: Global, out: &mut String, words: &mut Words<'_>, desk: &mut RunDesk) -> Read<()> {
+    let units = words.whole()?;
+    desk.read(alloc, words)?;
+    push_judged(alloc, out, units, desk, &desk.journal.entries)
+}
+
+fn push_judged(
+    alloc: Global,
+    out: &mut String,
+    units: u64,
+    desk: &RunDesk,
+    entries: &EntryList,
+) -> Read<()> {
+    let is_run = is_run(alloc, desk.spec()?, desk.tree()?, units, entries)?;
+    Ok(out.push_str(if is_run { "run" } else { "no run" })?)
+}
+
+fn on_entries(out: &mut String, word: &str, desk: &RunDesk) -> Read<()> {
+    if word == "finish" {
+        push_finish(out, &desk.journal.entries)
+    } else {
+        push_order(out, desk, &desk.journal.entries)
+    }
+}
+
+fn push_order(out: &mut String, desk: &RunDesk, entries: &EntryList) -> Read<()> {
+    Ok(out.push_str(if is_in_order(&desk.spec, entries) {
+        "in order"
+    } else {
+        "out of order"
+    })?)
+}
+
+fn push_finish(out: &mut String, entries: &EntryList) -> Read<()> {
+    match finish_of(entries) {
+        None => out.push_str("goes on")?,
+        Some(Finish::Ended(slot)) => {
+            out.push_str("ended ")?;
+            push_shown(out, slot)?;
+        }
+        Some(
+            Finish::Failed {
+                fault,
+                exit,
+                thread,
+                place,
+            },
+        ) => {
+            let number = fault.number();
+            write!(
+                out,
+                "failed {number} \t{exit:?}\t in \t{thread:?}\t at \t{place:?}\t"
+            )?;
+        }
+    }
+    Ok(())
+}
+
+fn run_whole(
+    alloc: Global,
+    out: &mut String,
+    words: &mut Words<'_>,
+    desk: &mut RunDesk,
+) -> Read<()> {
+    let units = words.whole()?;
+    desk.read(alloc, words)?;
+    let ran = run(alloc, desk.spec()?, desk.tree()?, units);
+    out.push_str(if ran.is_whole { "whole " } else { "cut short " })?;
+    push_judgement(alloc, out, units, desk, &ran.journal)
+}
+
+fn push_judgement(
+    alloc: Global,
+    out: &mut String,
+    units: u64,
+    desk: &RunDesk,
+    journal: &EntryList,
+) -> Read<()> {
+    push_judged(alloc, out, units, desk, journal)?;
+    out.push(' ')?;
+    push_order(out, desk, journal)?;
+    out.push_str(", ")?;
+    push_finish(out, journal)?;
+    push_entries(out, journal)
+}
