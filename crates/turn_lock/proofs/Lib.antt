@@ -1,0 +1,10 @@
+pub mod AnyMoment
+pub mod Cutting
+pub mod Drawing
+pub mod Joining
+pub mod Looking
+pub mod Moving
+pub mod Noting
+pub mod Piles
+pub mod Places
+pub mod Serving
