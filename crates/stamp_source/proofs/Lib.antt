@@ -1,0 +1,4 @@
+pub mod Cutting
+pub mod Drawing
+pub mod Joining
+pub mod Piles
