@@ -21,7 +21,8 @@ module _ {V E : Type 0} {g : Ghosts V E} where
   abbrev pub IsTurn : TurnHeld V E g → Type 0
   IsTurn held = IsAt (lock_id held.lock.now) held.pass.now × IsHolding held.pass.now
 
-  -- the entry by which the list is longer stands at the place k behind the list at `new`, above the places of all own notes before, and is an own note now
+  -- the entry by which the list is longer stands at the place k behind the list at `new`, above the places of all own notes
+  -- before, and is an own note now
   abbrev pub IsNoted : List E → TurnPass V E g → TurnPass V E g → Type 0
   IsNoted list before after = (k : ℕ) × (length (seen before) ≡ length (origin before) + k) × AllBelow k (own before)
       × ((e : E) → list ≡ seen before ++ e ∷ [] → own after ≡ own before ++ (k, e) ∷ [])
@@ -31,4 +32,5 @@ module _ {V E : Type 0} {g : Ghosts V E} where
 
 -- the turn has the value that is written through the result
 abbrev pub LendsValue : (R E : RattleType) (g : Ghosts R.Denot E.Denot) → MutBor (TurnHeld R.Denot E.Denot g) → MutBor R.Denot → Fml
-LendsValue R E g held result = follows (the_row (record { mir = named 1; lft = [] }) R E g) R held.ghost_name result.ghost_name (with_value held.now)
+LendsValue R E g held result =
+    follows (the_row (record { mir = named 1; lft = [] }) R E g) R held.ghost_name result.ghost_name (with_value held.now)

@@ -31,7 +31,8 @@ module _ {V E : Type 0} where
   -- a pass that has a turn has the number in the second word, and no two passes have turns
   pub record HasOwnNumber (s : State (Option V) (View E)) : Type 0 where
     pub number_is : (j x : ℕ) (v : View E) → get_elem? s.views j ≡ some v → v.stage ≡ Served x → slice_index s.words 1 ≡ x
-    pub one_pass : (j k x y : ℕ) (v w : View E) → get_elem? s.views j ≡ some v → get_elem? s.views k ≡ some w → v.stage ≡ Served x → w.stage ≡ Served y → j ≡ k
+    pub one_pass : (j k x y : ℕ) (v w : View E) → get_elem? s.views j ≡ some v → get_elem? s.views k ≡ some w
+        → v.stage ≡ Served x → w.stage ≡ Served y → j ≡ k
 
   -- there is one list, of which each pass saw a beginning, and in which its own notes stand
   pub record KnowsABeginning (first : List E) (s : State (Option V) (View E)) : Type 0 where

@@ -47,4 +47,5 @@ module _ {V E : Type 0} (story : V → List E) (adds_up : V → Type 0) where
     pub places_are : (x : ℕ) → total (λ v. times x v.own) s.views ≡ below (length noted) x
     pub weights_are : (f : E → ℕ) → total (λ v. weight f v.own) s.views ≡ total f noted
     pub each_fits : (j : ℕ) (v : View E) → get_elem? s.views j ≡ some v → Fits first noted now v
-    pub spot : AtHome (first ++ noted) s.homes (total (λ v. is_taken v.stage) s.views) ⊎ IsOut s.homes (total (λ v. is_taken v.stage) s.views)
+    pub spot : AtHome (first ++ noted) s.homes (total (λ v. is_taken v.stage) s.views)
+        ⊎ IsOut s.homes (total (λ v. is_taken v.stage) s.views)

@@ -34,7 +34,8 @@ module _ {V E : Type 0} where
   -- the entry is added to what was seen, at the place that was found, which is above those of all own notes before
   abbrev pub Notes : List E → At V → Known V E → ℕ → Known V E → Type 0
   Notes added st m n m' = (e : E) → added ≡ e ∷ []
-      → (m' ≡ (record m.0 { seen = m.0.seen ++ e ∷ []; own = m.0.own ++ (n, e) ∷ [] }, m.1)) × (length m.0.seen ≡ length m.0.base + n) × AllBelow n m.0.own
+      → (m' ≡ (record m.0 { seen = m.0.seen ++ e ∷ []; own = m.0.own ++ (n, e) ∷ [] }, m.1))
+      × (length m.0.seen ≡ length m.0.base + n) × AllBelow n m.0.own
 
   -- the pass has no number, and gave the value back
   abbrev pub Serves : At V → Known V E → ℕ → Known V E → Type 0

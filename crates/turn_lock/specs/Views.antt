@@ -49,4 +49,11 @@ module _ {E : Type 0} where
 
   -- the view for the passes of both
   abbrev pub pooled : View E → View E → View E
-  pooled v w = record { stage = Idle; passes = v.passes + w.passes; draws = v.draws + w.draws; base = v.base; seen = v.seen; own = w.own ++ v.own }
+  pooled v w = record {
+    stage = Idle;
+    passes = v.passes + w.passes;
+    draws = v.draws + w.draws;
+    base = v.base;
+    seen = v.seen;
+    own = w.own ++ v.own;
+  }

@@ -58,6 +58,6 @@ impl<'a, V: Storied> TurnHeld<'a, V> {
         ensures seen { seen self.exit.1.0.now ≡ seen self.entry.pass.now }
     {
         let TurnHeld { lock, pass, hand } = self;
-        leave(&lock.board.shared, pass, hand);
+        leave(&lock.board.shared, &lock.bells, pass, hand);
     }
 }

@@ -1,6 +1,7 @@
 //! A lock that is taken in turns, over a value that stands for a list of notes, and a source of stamps.
 #![tactic(auto)]
 
+mod bells;
 mod dealing;
 mod held;
 mod laws;

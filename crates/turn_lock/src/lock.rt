@@ -2,6 +2,7 @@
 ghost use Rattle.std.specs.Prelude.{◌≡◌, ℕ, ◌+◌, ◌<◌, ◌≤◌, All, IfOk, IfErr, vec_len};
 ghost use Rattle.turn_lock.specs.Boards.{IsBoard};
 
+use crate::bells::Bells;
 use crate::dealing::{deal, end, gather, lay};
 use crate::held::TurnHeld;
 use crate::pass::TurnPass;
@@ -14,6 +15,7 @@ use std::sync::Wait;
 /// A value that threads take in turns, in the order in which they came.
 pub struct TurnLock<V: Storied> {
     pub(crate) board: Board<V>,
+    pub(crate) bells: Bells,
     ghost sized: { IsBoard board.shared.table_id },
     ghost some: { 0 < board.shared.key.passes },
 }
@@ -38,7 +40,8 @@ impl<V: Storied> TurnLock<V> {
         match lay(alloc, value, passes) {
             Ok((board, seat)) => {
                 deal(&board.shared, seat, passes, &mut dealt);
-                Ok((TurnLock { board }, dealt))
+                let bells = Bells::new();
+                Ok((TurnLock { board, bells }, dealt))
             }
             Err(value) => Err(value),
         }
@@ -57,7 +60,7 @@ impl<V: Storied> TurnLock<V> {
         ensures seen { seen result.pass.now ≡ V.story result.hand }
         ensures value { Gives V.story V.adds_up pass.old result.hand }
     {
-        let hand = enter(rt, &self.board.shared, pass);
+        let hand = enter(rt, &self.board.shared, &self.bells, pass);
         TurnHeld {
             lock: self,
             pass,
@@ -70,7 +73,7 @@ impl<V: Storied> TurnLock<V> {
         ensures sums { V.adds_up result }
         ensures whole { HasAllNotes (first_story V.story self) passes.items (V.story result) }
     {
-        let TurnLock { board } = self;
+        let TurnLock { board, bells: _ } = self;
         let seat = gather(&board.shared, passes);
         end(board, seat)
     }
@@ -79,7 +82,7 @@ impl<V: Storied> TurnLock<V> {
 /// A lock that is dropped drops its value, where that can be dropped.
 impl<V: Storied + Drop> Drop for TurnLock<V> {
     fn drop(self) {
-        let Self { board } = self;
+        let Self { board, bells: _ } = self;
         drop(board);
     }
 }

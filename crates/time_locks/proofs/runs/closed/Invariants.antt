@@ -1,0 +1,5 @@
+use Rattle.time_locks.specs.Rows.{IsRow}
+use Rattle.time_locks.proofs.runs.closed.Given as goal
+
+abbrev pub invariant-loop-behind : goal.invariant-loop-behind
+invariant-loop-behind l = IsRow l.row
