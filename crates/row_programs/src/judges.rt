@@ -96,8 +96,7 @@ fn run_whole(
     let units = words.whole()?;
     desk.read(alloc, words)?;
     let ran = run(alloc, desk.spec()?, desk.tree()?, units);
-    out.push_str(if ran.is_whole { "whole " } else { "cut short " })?;
-    push_judgement(alloc, out, units, desk, &ran.journal)
+    push_judgement(alloc, out, units, desk, ran.is_whole, &ran.journal)
 }
 
 fn push_judgement(
@@ -105,8 +104,10 @@ fn push_judgement(
     out: &mut String,
     units: u64,
     desk: &RunDesk,
+    is_whole: bool,
     journal: &EntryList,
 ) -> Read<()> {
+    out.push_str(if is_whole { "whole " } else { "cut short " })?;
     push_judged(alloc, out, units, desk, journal)?;
     out.push(' ')?;
     push_order(out, desk, journal)?;

@@ -2,6 +2,8 @@
 // how many calls it asks for, where a new object is number 2 and all else is done. `asks UNITS`: the entry that the plain
 // program's question behind the answers but the last makes with the last one, or that it asks nothing.
 
+ghost use Rattle.std.specs.Prelude.{◌≤◌, length};
+
 use class_table::Table;
 use journal_entries::entry_made;
 use plain_meaning::{Standing, next_question};
@@ -13,7 +15,7 @@ use std::alloc::Global;
 use std::fmt::Write;
 use stmt_exec::Machine;
 use vdm_kinds::OutOfMemory;
-use vdm_tree::Expr;
+use vdm_tree::{Expr, Spec};
 
 pub(crate) fn answer(
     alloc: Global,
@@ -34,8 +36,21 @@ pub(crate) fn answer(
 
 fn play(alloc: Global, out: &mut String, units: u64, desk: &mut RunDesk) -> Read<()> {
     let answers = desk.journal.answers.split_off(0)?;
-    let table = Table::of(alloc, desk.spec()?)?;
-    push_played(alloc, out, &table, desk.tree()?, units, &answers)
+    push_play(alloc, out, desk.spec()?, desk.tree()?, units, &answers)
+}
+
+fn push_play(
+    alloc: Global,
+    out: &mut String,
+    spec: &Spec,
+    tree: &Expr,
+    units: u64,
+    answers: &[Answer],
+) -> Read<()>
+    requires { length spec.now.classes.items ≤ 1 }
+{
+    let table = Table::of(alloc, spec)?;
+    push_played(alloc, out, &table, tree, units, answers)
 }
 
 fn push_played(
@@ -46,13 +61,27 @@ fn push_played(
     units: u64,
     answers: &[Answer],
 ) -> Read<()> {
-    let mut machine = Machine::main(alloc, table, tree, units)?;
+    push_steps(
+        alloc,
+        out,
+        &mut Machine::main(alloc, table, tree, units)?,
+        answers,
+    )
+}
+
+// The machine is lent, since a function that owns it proves its dropping at each of its exits.
+fn push_steps(
+    alloc: Global,
+    out: &mut String,
+    machine: &mut Machine<'_>,
+    answers: &[Answer],
+) -> Read<()> {
     for answer in answers {
         if machine.over() {
             out.push_str("over before; ")?;
             break;
         }
-        push_step(alloc, out, &mut machine, answer)?;
+        push_step(alloc, out, machine, answer)?;
     }
     Ok(out.push_str(if machine.over() { "over" } else { "goes on" })?)
 }
@@ -98,7 +127,10 @@ fn calls(alloc: Global, out: &mut String, units: u64, desk: &RunDesk) -> Read<()
 }
 
 fn calls_of(alloc: Global, table: &Table<'_>, tree: &Expr, units: u64) -> Result<u64, OutOfMemory> {
-    let mut machine = Machine::main(alloc, table, tree, units)?;
+    calls_by(alloc, &mut Machine::main(alloc, table, tree, units)?)
+}
+
+fn calls_by(alloc: Global, machine: &mut Machine<'_>) -> Result<u64, OutOfMemory> {
     let mut calls: u64 = 0;
     // A bound, not a measure: the units end it before.
     for _question in 0..u64::MAX {

@@ -16,7 +16,18 @@ pub(crate) fn answer(alloc: Global, out: &mut String, words: &mut Words<'_>) -> 
     let fails = fails_of(alloc, words.word())?;
     let mut sink = sink_of(alloc, words)?;
     let mut source = MemSource::new(words.text(alloc)?, piece, fails);
-    let report = vdm_main(alloc, &command_of(alloc, words)?, &mut source, &mut sink);
+    push_call(alloc, out, words, &mut source, &mut sink)
+}
+
+// Source and sink are lent, since a function that owns them proves their dropping at each of its exits.
+fn push_call(
+    alloc: Global,
+    out: &mut String,
+    words: &mut Words<'_>,
+    source: &mut MemSource,
+    sink: &mut MemSink,
+) -> Read<()> {
+    let report = vdm_main(alloc, &command_of(alloc, words)?, source, sink);
     push_report(out, &report)?;
     Ok(push_bytes(out, sink.held())?)
 }

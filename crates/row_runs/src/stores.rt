@@ -31,9 +31,19 @@ pub(crate) fn answer(
 
 fn store(alloc: Global, out: &mut String, desk: &mut RunDesk) -> Read<()> {
     let questions = desk.journal.questions.split_off(0)?;
-    let mut store = Store::new(alloc);
+    store_over(alloc, out, &desk.spec, &mut Store::new(alloc), questions)
+}
+
+// The store is lent, since a function that owns it proves its dropping at each of its exits.
+fn store_over(
+    alloc: Global,
+    out: &mut String,
+    spec: &Spec,
+    store: &mut Store,
+    questions: Vec<Question>,
+) -> Read<()> {
     for question in questions {
-        push_answered(alloc, out, &desk.spec, &mut store, question)?;
+        push_answered(alloc, out, spec, store, question)?;
         out.push_str("; ")?;
     }
     out.push_str("entries")?;

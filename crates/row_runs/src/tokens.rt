@@ -21,12 +21,29 @@ pub(crate) fn answer(
     words: &mut Words<'_>,
 ) -> Read<()> {
     let mut names = Names::new(alloc)?;
-    match found_by(alloc, words, &mut names)? {
-        Some(_) if word == "token-names" => push_all_names(out, &names),
-        Some(tokens) if tokens.is_empty() => Ok(out.push_str("no token")?),
-        Some(tokens) if word == "tokens" => Ok(push_kinds(out, &tokens)?),
-        Some(tokens) => Ok(push_spots(out, &tokens)?),
+    answer_over(alloc, out, word, words, &mut names)
+}
+
+// The names are lent, since a function that owns them proves their dropping at each of its exits.
+fn answer_over(
+    alloc: Global,
+    out: &mut String,
+    word: &str,
+    words: &mut Words<'_>,
+    names: &mut Names,
+) -> Read<()> {
+    match found_by(alloc, words, names)? {
+        Some(tokens) => push_tokens(out, word, &tokens, names),
         None => Ok(out.push_str("refused")?),
+    }
+}
+
+fn push_tokens(out: &mut String, word: &str, tokens: &[Token], names: &Names) -> Read<()> {
+    match word {
+        "token-names" => push_all_names(out, names),
+        _ if tokens.is_empty() => Ok(out.push_str("no token")?),
+        "tokens" => Ok(push_kinds(out, tokens)?),
+        _ => Ok(push_spots(out, tokens)?),
     }
 }
 

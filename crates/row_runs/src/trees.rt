@@ -3,12 +3,12 @@
 
 use first_reader::read_specification;
 use row_trees::RunDesk;
-use row_words::{Read, Words, push_names, push_refused, push_shown};
+use row_words::{Read, Words, push_names, push_refused, push_shown, push_yes};
 use std::alloc::Global;
 use std::fmt::Write;
 use vdm_kinds::{Halt, SpecFault};
 use vdm_names::Names;
-use vdm_tree::Expr;
+use vdm_tree::{Expr, Spec};
 
 pub(crate) fn answer(
     alloc: Global,
@@ -46,13 +46,24 @@ fn terms_of(tree: &Expr) -> u64 {
     }
 }
 
+// What is read and the names are lent, since a function that owns them proves their dropping at each of its exits.
 fn spec(alloc: Global, out: &mut String, text: &[u8]) -> Read<()> {
     let mut names = Names::new(alloc)?;
-    match read_specification(alloc, text, &mut names) {
-        Ok(spec) => push_shown(out, &spec)?,
-        Err(halt) => push_halt(out, halt)?,
+    let read = read_specification(alloc, text, &mut names);
+    push_read(out, &read, &names)
+}
+
+fn push_read(out: &mut String, read: &Result<Spec, Halt<SpecFault>>, names: &Names) -> Read<()> {
+    push_spec(out, read)?;
+    Ok(push_names(out, names)?)
+}
+
+fn push_spec(out: &mut String, read: &Result<Spec, Halt<SpecFault>>) -> Read<()> {
+    match read {
+        Ok(spec) => Ok(push_shown(out, spec)?),
+        Err(Halt::Of(fault)) => Ok(push_refused(out, *fault)?),
+        Err(Halt::OutOfMemory) => Err(Halt::OutOfMemory),
     }
-    Ok(push_names(out, &names)?)
 }
 
 fn push_halt(out: &mut String, halt: Halt<SpecFault>) -> Read<()> {
@@ -64,9 +75,14 @@ fn push_halt(out: &mut String, halt: Halt<SpecFault>) -> Read<()> {
 
 fn accepts(alloc: Global, out: &mut String, text: &[u8]) -> Read<()> {
     let mut names = Names::new(alloc)?;
-    match read_specification(alloc, text, &mut names) {
-        Ok(_) => Ok(out.push_str("yes")?),
-        Err(Halt::Of(_)) => Ok(out.push_str("no")?),
+    let read = read_specification(alloc, text, &mut names);
+    push_accepted(out, &read)
+}
+
+fn push_accepted(out: &mut String, read: &Result<Spec, Halt<SpecFault>>) -> Read<()> {
+    match read {
+        Ok(_) => Ok(push_yes(out, true)?),
+        Err(Halt::Of(_)) => Ok(push_yes(out, false)?),
         Err(Halt::OutOfMemory) => Err(Halt::OutOfMemory),
     }
 }

@@ -52,12 +52,22 @@ fn fault(out: &mut String, number: u32) -> Read<()> {
 
 fn names(alloc: Global, out: &mut String, words: &mut Words<'_>) -> Read<()> {
     let mut names = Names::new(alloc)?;
+    push_all_named(alloc, out, words, &mut names)
+}
+
+// The names are lent, since a function that owns them proves their dropping at each of its exits.
+fn push_all_named(
+    alloc: Global,
+    out: &mut String,
+    words: &mut Words<'_>,
+    names: &mut Names,
+) -> Read<()> {
     for _text in 0..words.bound() {
         if words.is_over() {
             break;
         }
-        let name = named(alloc, words, &mut names)?;
-        push_named(out, name, &names)?;
+        let name = named(alloc, words, names)?;
+        push_named(out, name, names)?;
     }
     let count = names.len();
     Ok(write!(out, "of {count}")?)
@@ -80,11 +90,21 @@ fn push_named(out: &mut String, name: Name, names: &Names) -> Read<()> {
 fn name(alloc: Global, out: &mut String, words: &mut Words<'_>) -> Read<()> {
     let number = words.number()?;
     let mut names = Names::new(alloc)?;
+    push_text(alloc, out, Name(number), words, &mut names)
+}
+
+fn push_text(
+    alloc: Global,
+    out: &mut String,
+    name: Name,
+    words: &mut Words<'_>,
+    names: &mut Names,
+) -> Read<()> {
     for _text in 0..words.bound() {
         if words.is_over() {
             break;
         }
-        named(alloc, words, &mut names)?;
+        named(alloc, words, names)?;
     }
-    Ok(out.push_str(names.text(Name(number)).unwrap_or(NONE))?)
+    Ok(out.push_str(names.text(name).unwrap_or(NONE))?)
 }

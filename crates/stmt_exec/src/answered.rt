@@ -21,7 +21,7 @@ pub fn answered_of<'t>(asking: Asking<'t>, answer: Answer) -> Step<'t>
     match asking {
         Asking::IoClass(table, tree) => after_io(table, tree),
         Asking::TextClass(_, tree) => start(tree),
-        Asking::Request(call) => requested(call),
+        Asking::Request(call) => requested(call, answer),
         Asking::Activation(call) => activated(call, answer),
         Asking::Finish(call, slot) => given(call.wanted, call.place, slot),
         Asking::Read(_, _, place) => read_value(place, answer),
