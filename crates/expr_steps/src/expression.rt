@@ -1,57 +1,23 @@
-// What each node of an expression does.
+// What names and operators do.
 
-ghost use Rattle.std.specs.Prelude.{◌≡◌, ◌≤◌, IfOk, option_map};
+ghost use Rattle.std.specs.Prelude.{◌≡◌, ◌≤◌, option_map};
 ghost use Rattle.std.specs.Borrow.{Bor};
 ghost use Rattle.abstract_syntax.specs.Classes.{SpecTree};
-ghost use Rattle.vdm_meaning.specs.Expressions.{expr_plan, right_operand, operator_on, read_found, read_of, read_value};
+ghost use Rattle.vdm_meaning.specs.Expressions.{right_operand, operator_on, read_found, read_of, read_value};
 ghost use Rattle.vdm_tree.specs.View.{view_of};
 ghost use Rattle.vdm_tree.specs.ClassView.{variable_view};
 ghost use Rattle.vdm_tree.specs.declared.class_def.VarDef.{VarDef};
-ghost use Rattle.class_table.specs.Tables.{class_of, table_spec};
+ghost use Rattle.class_table.specs.Tables.{class_of};
 ghost use Rattle.step_data.specs.Parts.{env_of};
 ghost use Rattle.step_data.specs.Steps.{code_of, height};
 
-use crate::call::application;
-use crate::object::new_object;
 use crate::operators::applied;
-use class_table::{Members, Table};
+use class_table::Members;
 use run_journal::Answer;
-use std::alloc::Global;
-use step_data::{Asking, Env, Frame, Step, Task, Use, Wanted, variable_ref};
-use vdm_kinds::{Name, Operator, OutOfMemory, Place, RunFault};
+use step_data::{Asking, Env, Frame, Step, Task, Use, variable_ref};
+use vdm_kinds::{Name, Operator, Place, RunFault};
 use vdm_tree::{Expr, VarDef};
-use vdm_values::{Node, Slot, Value};
-
-/// What a node of an expression does.
-pub fn expression<'t>(
-    alloc: Global,
-    table: &'t Table<'t>,
-    env: Env<'t>,
-    tree: &'t Expr,
-) -> Result<Step<'t>, OutOfMemory>
-    ensures { IfOk result (λ s. code_of (table_spec table.now) s ≡ expr_plan (table_spec table.now) (env_of env.entry) (view_of tree.now)) }
-{
-    match tree {
-        Expr::Whole(number, _) => Ok(Step::value(Value::new(Node::Int(*number)))),
-        Expr::Name(name, place) => Ok(read_of(env, *name, *place)),
-        Expr::Infix(left, operator, right, place) => Ok(Step::Part(
-            Task::Expr(env, left),
-            Frame::With(Use::RightOperand(env, right, *operator), *place),
-        )),
-        Expr::Apply(head, arguments, place) => {
-            Ok(application(env, head, arguments.as_slice(), *place, Wanted::Value))
-        }
-        Expr::New(class, _, arguments, place) => {
-            new_object(
-                alloc,
-                table.class_named(*class),
-                arguments.as_slice(),
-                *place,
-            )
-        }
-        Expr::Select(_, _, _, place) => Ok(Step::Fail(RunFault::Undefined, *place)),
-    }
-}
+use vdm_values::{Slot, Value};
 
 /// The right operand after the left one, then the operator.
 pub fn right_operand<'t>(
@@ -80,7 +46,7 @@ pub fn operator_on<'t>(operator: Operator, place: Place, left: Value, right: Val
 }
 
 /// A name that stands alone: a variable of the object, which is read.
-fn read_of<'t>(env: Env<'t>, name: Name, place: Place) -> Step<'t>
+pub fn read_of<'t>(env: Env<'t>, name: Name, place: Place) -> Step<'t>
     ensures { (spec : SpecTree) → code_of spec result ≡ read_of (env_of env.entry) name place }
 {
     match env {

@@ -1,7 +1,5 @@
-//! What expressions, operators, calls and new objects do.
+//! What names and operators do.
 #![tactic(auto)]
 
-pub mod call;
 pub mod expression;
-pub mod object;
 mod operators;

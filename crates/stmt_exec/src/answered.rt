@@ -4,9 +4,9 @@ ghost use Rattle.std.specs.Prelude.{◌≡◌, ◌<◌};
 ghost use Rattle.abstract_syntax.specs.Classes.{SpecTree};
 ghost use Rattle.step_data.specs.Steps.{code_of, answered_of, weight, height};
 
-use expr_steps::call::{activated, given};
+use call_steps::call::{activated, given};
+use call_steps::object::created;
 use expr_steps::expression::read_value;
-use expr_steps::object::created;
 use main_steps::{after_io, requested, start};
 use run_journal::Answer;
 use step_data::{Asking, Step};

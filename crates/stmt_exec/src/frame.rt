@@ -6,10 +6,10 @@ ghost use Rattle.class_table.specs.Tables.{table_spec};
 ghost use Rattle.step_data.specs.Parts.{flow_of};
 ghost use Rattle.step_data.specs.Steps.{code_of, use_of, then_of};
 
+use call_steps::call::{call_on, ended};
+use call_steps::object::with_slot;
 use class_table::Table;
-use expr_steps::call::{call_on, ended};
 use expr_steps::expression::{operator_on, right_operand};
-use expr_steps::object::with_slot;
 use step_data::{Asking, Flow, Frame, Step, Use};
 use stmt_steps::statement::{assigned, called, return_value, unless_returned};
 use vdm_kinds::{OutOfMemory, Place, RunFault};

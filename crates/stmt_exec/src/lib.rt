@@ -2,6 +2,7 @@
 #![tactic(auto)]
 
 mod answered;
+mod expression;
 mod frame;
 mod machine;
 mod task;

@@ -6,9 +6,9 @@ ghost use Rattle.class_table.specs.Tables.{table_spec};
 ghost use Rattle.step_data.specs.Parts.{task_of};
 ghost use Rattle.step_data.specs.Steps.{code_of};
 
+use crate::expression::expression;
+use call_steps::call::bare_call;
 use class_table::Table;
-use expr_steps::call::bare_call;
-use expr_steps::expression::expression;
 use std::alloc::Global;
 use step_data::{Step, Task};
 use stmt_steps::statement::statement;

@@ -2,7 +2,7 @@ use Rattle.std.proofs.Common.{◌≡◌, length, ◌-◌}
 use Rattle.abstract_syntax.specs.Classes.{class_variables}
 use Rattle.vdm_meaning.specs.Calls.{initialise}
 use Rattle.class_table.specs.Tables.{class_of, variables_from}
-use Rattle.expr_steps.proofs.object.initialise.Given as goal
+use Rattle.call_steps.proofs.object.initialise.Given as goal
 
 -- the initialisers of the rest do what those of the whole do
 abbrev pub invariant-loop-variable : goal.invariant-loop-variable

@@ -1,6 +1,6 @@
 use Rattle.class_table.specs.Tables.{class_of}
-use Rattle.expr_steps.proofs.Applying.{no_arguments, new_with_arguments}
-use Rattle.expr_steps.proofs.object.new_object.Goals as goal
+use Rattle.call_steps.proofs.Applying.{no_arguments, new_with_arguments}
+use Rattle.call_steps.proofs.object.new_object.Goals as goal
 
 pub returns-in-empty : goal.returns-in-empty
 returns-in-empty c = rw (c.in-Some.is, no_arguments c.args.arguments.now c.in-empty.len_below) (rw c.new.ensures.items at c.initialise.ensures)

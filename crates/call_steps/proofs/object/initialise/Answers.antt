@@ -2,8 +2,8 @@ use Rattle.std.proofs.Common.{◌<◌, ◌+◌, length, ap, ◌∙◌, arith}
 use Rattle.abstract_syntax.specs.Classes.{class_variables}
 use Rattle.vdm_meaning.specs.Calls.{initialise}
 use Rattle.class_table.specs.Tables.{class_of, variables_from}
-use Rattle.expr_steps.proofs.Initialising.{variable-within, unset_variable, initial_variable, all_variables}
-use Rattle.expr_steps.proofs.object.initialise.Goals as goal
+use Rattle.call_steps.proofs.Initialising.{variable-within, unset_variable, initial_variable, all_variables}
+use Rattle.call_steps.proofs.object.initialise.Goals as goal
 
 pub returns-in-Some-initial : goal.returns-in-Some-initial
 returns-in-Some-initial c = λ spec. rw c.deref.ensures (initial_variable (class_variables (class_of c.args.members.now)) c.loop-variable.next c.variable_at.result c.variable_at.ensures.variable (class_of c.args.members.now) c.args.place c.loop-variable.slots.items c.in-Some.variable c.in-Some-initial.initial c.in-Some.is c.in-Some-initial.is ∙ c.loop-variable.invariant)
