@@ -1,21 +1,25 @@
 // Answers in requests.
 
-use crate::desk::JournalDesk;
-use row_words::{Read, Unreadable, Words, popped};
+use crate::desk::Desk;
+use row_words::Line;
 use run_journal::{Answer, HostAnswer};
-use vdm_kinds::Halt;
 
-/// The answer that stands next.
-pub(crate) fn answer_by(desk: &mut JournalDesk, words: &mut Words<'_>) -> Read<Answer> {
-    match words.word() {
-        "done" => Ok(Answer::Done),
-        "object" => Ok(Answer::Object(words.number()?)),
-        "slot" => Ok(Answer::Slot(popped(&mut desk.values.slots)?)),
-        "refused" => Ok(Answer::Refused),
-        "inner" => Ok(Answer::Inner(words.number()?)),
-        "given" => Ok(Answer::Host(HostAnswer::Given(popped(&mut desk.values.values)?))),
-        "host-refused" => Ok(Answer::Host(HostAnswer::Refused)),
-        "ticks" => Ok(Answer::Ticks(words.whole()?)),
-        _ => Err(Halt::Of(Unreadable)),
+impl Desk {
+    /// The answer that stands next.
+    pub(crate) fn answer_by(&mut self, line: &mut Line<'_>) -> Answer {
+        match line.word() {
+            "done" => Answer::Done,
+            "object" => Answer::Object(line.number()),
+            "slot" => Answer::Slot(self.slot(line)),
+            "refused" => Answer::Refused,
+            "inner" => Answer::Inner(line.number()),
+            "given" => Answer::Host(HostAnswer::Given(self.value(line))),
+            "host-refused" => Answer::Host(HostAnswer::Refused),
+            "ticks" => Answer::Ticks(line.whole()),
+            _ => {
+                line.refuse();
+                Answer::Done
+            }
+        }
     }
 }

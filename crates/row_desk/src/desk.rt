@@ -1,136 +1,172 @@
-// What the words of a request make of entries.
+// What the words of a request make.
 
-use crate::answers::answer_by;
-use crate::deeds::deed_by;
-use crate::threads::thread_by;
-use crate::value_desk::ValueDesk;
-use row_words::{Read, Words, popped};
+ghost use Rattle.std.specs.Prelude.{◌≤◌, length, IfSome};
+
+use row_words::Line;
 use run_journal::{Answer, Deed, Entry, EntryList, Question, Write};
 use std::alloc::Global;
-use vdm_kinds::{OpRef, OutOfMemory, VarRef};
+use vdm_kinds::{Name, OpRef, VarRef};
+use vdm_names::Names;
+use vdm_tree::{Expr, Spec};
+use vdm_values::{Node, Slot, Value};
 
-/// What words made so far, the last of each kind last.
+/// What words made so far, the last of each kind last. Names that were declared are known by their index, and without a
+/// specification it is the empty one.
 #[derive(Drop)]
-pub struct JournalDesk {
-    pub values: ValueDesk,
+pub struct Desk {
+    pub names: Names,
+    pub(crate) known: Vec<Name>,
+    pub values: Vec<Value>,
+    pub slots: Vec<Slot>,
     pub(crate) writes: Vec<Write>,
     pub deeds: Vec<Deed>,
     pub entries: EntryList,
     pub questions: Vec<Question>,
     pub answers: Vec<Answer>,
+    pub spec: Spec,
+    pub trees: Vec<Expr>,
 }
 
-impl JournalDesk {
-    /// Nothing is made so far.
-    pub fn new(alloc: Global) -> Result<JournalDesk, OutOfMemory> {
-        Ok(JournalDesk {
-            values: ValueDesk::new(alloc)?,
+impl Desk {
+    /// Nothing is made so far, and there are these names.
+    pub fn new(alloc: Global, names: Names) -> Desk {
+        Desk {
+            names,
+            known: Vec::new(alloc),
+            values: Vec::new(alloc),
+            slots: Vec::new(alloc),
             writes: Vec::new(alloc),
             deeds: Vec::new(alloc),
             entries: EntryList::new(alloc),
             questions: Vec::new(alloc),
             answers: Vec::new(alloc),
-        })
-    }
-
-    /// Begins again, with nothing made.
-    pub fn clear(&mut self, alloc: Global) -> Result<(), OutOfMemory> {
-        self.values.clear(alloc)?;
-        self.writes.clear();
-        self.deeds.clear();
-        self.entries = EntryList::new(alloc);
-        self.questions.clear();
-        self.answers.clear();
-        Ok(())
+            spec: Spec {
+                classes: Vec::new(alloc),
+            },
+            trees: Vec::new(alloc),
+        }
     }
 
     /// Does what all further words say.
-    pub fn read(&mut self, alloc: Global, words: &mut Words<'_>) -> Read<()> {
-        for _word in 0..words.bound() {
-            if words.is_over() {
+    pub fn read(&mut self, line: &mut Line<'_>) {
+        for _word in 0..line.bound() {
+            if line.is_over() {
                 break;
             }
-            self.follow(alloc, words.word(), words)?;
+            self.follow(line.word(), line);
         }
-        Ok(())
     }
 
-    /// Does what a word says.
-    pub fn follow(&mut self, alloc: Global, word: &str, words: &mut Words<'_>) -> Read<()> {
+    // Does what a word says.
+    fn follow(&mut self, word: &str, line: &mut Line<'_>) {
         match word {
-            "write" => self.write(words),
-            "deed" => {
-                let deed = deed_by(self, words)?;
-                Ok(self.deeds.push(deed)?)
-            }
-            "answer" => {
-                let answer = answer_by(self, words)?;
-                Ok(self.answers.push(answer)?)
-            }
-            "entry" => self.enter(words),
-            "ask" => self.ask(words),
-            _ => self.values.follow(alloc, word, words),
+            "name" => self.declare(line),
+            "number" => self.number(line),
+            "unset" => line.put(&mut self.slots, Slot::Unset),
+            "held" => self.hold(line),
+            "write" => self.write(line),
+            "deed" => self.act(line),
+            "answer" => self.answer(line),
+            "entry" => self.enter(line),
+            "ask" => self.ask(line),
+            "spec" => self.read_spec(line),
+            "expr" => self.read_expr(line),
+            "tree" => self.grow(line),
+            _ => self.change(word, line),
         }
     }
 
-    fn write(&mut self, words: &mut Words<'_>) -> Read<()> {
-        let var = self.variable(words)?;
-        let value = popped(&mut self.values.values)?;
-        Ok(self.writes.push(Write { var, value })?)
+    fn change(&mut self, word: &str, line: &mut Line<'_>) {
+        match word {
+            "no-initial" => self.unset_last(),
+            "blocks-apart" => self.set_apart(line),
+            _ => self.make(word, line),
+        }
     }
 
-    fn enter(&mut self, words: &mut Words<'_>) -> Read<()> {
-        let thread = thread_by(words)?;
-        let object = words.number()?;
-        let deed = popped(&mut self.deeds)?;
-        Ok(self.entries.push(Entry::new(thread, object, deed))?)
+    fn number(&mut self, line: &mut Line<'_>) {
+        let name = Name(line.number());
+        line.put(&mut self.known, name);
     }
 
-    fn ask(&mut self, words: &mut Words<'_>) -> Read<()> {
-        let object = words.number()?;
-        let deed = popped(&mut self.deeds)?;
-        Ok(self.questions.push(question_of(object, deed))?)
+    fn hold(&mut self, line: &mut Line<'_>) {
+        let value = self.value(line);
+        line.put(&mut self.slots, Slot::Held(value));
+    }
+
+    fn write(&mut self, line: &mut Line<'_>) {
+        let var = self.variable(line);
+        let value = self.value(line);
+        line.put(&mut self.writes, Write { var, value });
+    }
+
+    fn act(&mut self, line: &mut Line<'_>) {
+        let deed = self.deed_by(line);
+        line.put(&mut self.deeds, deed);
+    }
+
+    fn answer(&mut self, line: &mut Line<'_>) {
+        let answer = self.answer_by(line);
+        line.put(&mut self.answers, answer);
+    }
+
+    fn grow(&mut self, line: &mut Line<'_>) {
+        let tree = self.tree_by(line);
+        line.put(&mut self.trees, tree);
+    }
+
+    /// The last value, taken from the desk; nil where there is none.
+    pub fn value(&mut self, line: &mut Line<'_>) -> Value {
+        line.last(&mut self.values, Value::new(Node::Nil))
+    }
+
+    /// The last slot, taken from the desk; one without a value where there is none.
+    pub(crate) fn slot(&mut self, line: &mut Line<'_>) -> Slot {
+        line.last(&mut self.slots, Slot::Unset)
+    }
+
+    /// The last deed, taken from the desk; a tick where there is none.
+    pub(crate) fn deed(&mut self, line: &mut Line<'_>) -> Deed {
+        line.last(&mut self.deeds, Deed::Tick)
+    }
+
+    /// The last question, taken from the desk; one of the time where there is none.
+    pub fn question(&mut self, line: &mut Line<'_>) -> Question {
+        line.last(&mut self.questions, Question::Time)
+    }
+
+    /// The last answer, taken from the desk; that it is done where there is none.
+    pub fn last_answer(&mut self, line: &mut Line<'_>) -> Answer {
+        line.last(&mut self.answers, Answer::Done)
+    }
+
+    /// The specification, unless it has several classes.
+    pub fn spec(&self) -> Option<&Spec>
+        ensures { IfSome result (λ spec. length spec.now.classes.items ≤ 1) }
+    {
+        if self.spec.classes.len() > 1 {
+            return None;
+        }
+        Some(&self.spec)
+    }
+
+    /// The last expression.
+    pub fn tree(&self) -> Option<&Expr> {
+        self.trees.last()
     }
 
     /// The variable whose class and name stand next.
-    pub(crate) fn variable(&self, words: &mut Words<'_>) -> Read<VarRef> {
-        Ok(VarRef {
-            class: self.values.name(words)?,
-            name: self.values.name(words)?,
-        })
+    pub(crate) fn variable(&self, line: &mut Line<'_>) -> VarRef {
+        let class = self.name(line);
+        let name = self.name(line);
+        VarRef { class, name }
     }
 
     /// The operation whose class, name and arity stand next.
-    pub(crate) fn operation(&self, words: &mut Words<'_>) -> Read<OpRef> {
-        Ok(OpRef {
-            class: self.values.name(words)?,
-            name: self.values.name(words)?,
-            arity: words.number()?,
-        })
-    }
-}
-
-// The question that a deed at the object answers.
-fn question_of(object: u32, deed: Deed) -> Question {
-    match deed {
-        Deed::Class { class, values } => Question::Class {
-            object,
-            class,
-            values,
-        },
-        Deed::New { class, values } => Question::New { class, values },
-        Deed::Req { op } => Question::Req { object, op },
-        Deed::Act { op } | Deed::ActFault { op, .. } => Question::Act { object, op },
-        Deed::Fin { op } => Question::Fin { object, op },
-        Deed::Read { var, .. } => Question::Read { object, var },
-        Deed::Write { writes, .. } => Question::Write { object, writes },
-        Deed::Start { .. } => Question::Start { object },
-        Deed::Print { text } => Question::Print { text },
-        Deed::Host { op, args, .. } => Question::Host { object, op, args },
-        Deed::Time { .. } => Question::Time,
-        Deed::End { value } => Question::End { value },
-        Deed::Fail { fault, exit, place } => Question::Fail { fault, exit, place },
-        Deed::Tick => Question::Tick,
-        Deed::Release { k } => Question::Release { object, k },
+    pub(crate) fn operation(&self, line: &mut Line<'_>) -> OpRef {
+        let class = self.name(line);
+        let name = self.name(line);
+        let arity = line.number();
+        OpRef { class, name, arity }
     }
 }

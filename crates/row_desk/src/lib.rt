@@ -1,14 +1,17 @@
-//! The desk on which stands what the words of a request make: names, values and slots, deeds and entries, questions and answers.
+//! The desk on which stands what the words of a request make: names, values and slots, deeds and entries, questions and
+//! answers, a specification and expressions.
 #![tactic(auto)]
 
 mod answers;
 mod deeds;
 mod desk;
-mod shown;
+mod said;
+mod specs;
 mod threads;
-mod value_desk;
+mod trees;
+mod values;
 
-pub use desk::JournalDesk;
-pub use shown::{push_entries, push_made};
+pub use desk::Desk;
+pub use said::{say_entries, say_made};
 pub use threads::thread_by;
-pub use value_desk::{ValueDesk, pairs_of};
+pub use values::pairs_of;

@@ -1,85 +1,32 @@
-//! Answers of rows on the texts of values, the lines of the log and whole reports.
+//! Answers of rows on threads and the entries of a journal, on the texts of values, the lines of the log and whole reports.
 //!
-//! A request is a word and the words behind it; the head of each module says which words it answers.
+//! A request is a word and the words behind it; the head of each module says which words it answers. What the words make
+//! stands on a desk that is lent.
 #![tactic(auto)]
 
+mod journals;
 mod logs;
 mod numbers;
 
-use row_desk::JournalDesk;
-use row_words::{Read, Words, push_names};
-use std::alloc::Global;
+use row_desk::Desk;
+use row_words::Line;
 
-/// Appends the answer to a request; none where the word is none of this library's.
-pub fn answer(
-    alloc: Global,
-    out: &mut String,
-    word: &str,
-    words: &mut Words<'_>,
-    desk: &mut JournalDesk,
-) -> Option<Read<()>> {
+/// Answers a request; tells whether the word is one of this library's.
+pub fn answer(desk: &mut Desk, line: &mut Line<'_>, word: &str) -> bool {
     match word {
-        "value" | "slot" | "line" | "report" => Some(answer_by(alloc, out, word, words, desk)),
-        _ => None,
+        "value" | "slot" | "line" | "report" => logs::answer(desk, line, word),
+        "is" => journals::are_one(line),
+        "own" => journals::own(line),
+        "made" | "of-object" | "of-thread" => journals::answer(desk, line, word),
+        "same-entry" | "same-question" | "same-deed" => {
+            desk.read(line);
+            journals::are_same(desk, line, word);
+        }
+        "entries" | "answers" => {
+            desk.read(line);
+            journals::lists(desk, line, word);
+        }
+        _ => return false,
     }
-}
-
-fn answer_by(
-    alloc: Global,
-    out: &mut String,
-    word: &str,
-    words: &mut Words<'_>,
-    desk: &mut JournalDesk,
-) -> Read<()> {
-    match word {
-        "value" => values(alloc, out, words, desk)?,
-        "slot" => slots(alloc, out, words, desk)?,
-        "line" => line(alloc, out, words, desk)?,
-        _ => report(alloc, out, words, desk)?,
-    }
-    Ok(push_names(out, &desk.values.names)?)
-}
-
-fn values(
-    alloc: Global,
-    out: &mut String,
-    words: &mut Words<'_>,
-    desk: &mut JournalDesk,
-) -> Read<()> {
-    desk.read(alloc, words)?;
-    logs::values(alloc, out, desk)
-}
-
-fn slots(
-    alloc: Global,
-    out: &mut String,
-    words: &mut Words<'_>,
-    desk: &mut JournalDesk,
-) -> Read<()> {
-    let before = words.text(alloc)?;
-    desk.read(alloc, words)?;
-    logs::slots(alloc, out, before, desk)
-}
-
-fn line(
-    alloc: Global,
-    out: &mut String,
-    words: &mut Words<'_>,
-    desk: &mut JournalDesk,
-) -> Read<()> {
-    let k = words.whole()?;
-    desk.read(alloc, words)?;
-    logs::line(alloc, out, k, desk)
-}
-
-fn report(
-    alloc: Global,
-    out: &mut String,
-    words: &mut Words<'_>,
-    desk: &mut JournalDesk,
-) -> Read<()> {
-    let last = words.text(alloc)?;
-    let has_log = words.number()? == 1;
-    desk.read(alloc, words)?;
-    logs::report(alloc, out, &last, has_log, desk)
+    true
 }

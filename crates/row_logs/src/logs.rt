@@ -4,86 +4,108 @@
 
 use crate::numbers::{has_log_line, have_log_lines, is_number, is_number_slot};
 use log_printer::{log_line, report_text};
-use row_desk::JournalDesk;
-use row_words::{Read, Unreadable, push_bytes};
+use row_desk::Desk;
+use row_words::Line;
 use run_journal::{Entry, EntryList};
-use std::alloc::Global;
 use value_text::{slot_text, text};
-use vdm_kinds::Halt;
+use vdm_kinds::OutOfMemory;
 use vdm_names::Names;
 use vdm_values::{Slot, Value};
 
-/// The texts of the values.
-pub(crate) fn values(alloc: Global, out: &mut String, desk: &JournalDesk) -> Read<()> {
-    let mut bytes = Vec::new(alloc);
-    for value in &desk.values.values {
-        value_bytes(alloc, &mut bytes, value, &desk.values.names)?;
+pub(crate) fn answer(desk: &mut Desk, line: &mut Line<'_>, word: &str) {
+    match word {
+        "value" => values(desk, line),
+        "slot" => slots(desk, line),
+        "line" => lines(desk, line),
+        _ => report(desk, line),
     }
-    Ok(push_bytes(out, &bytes)?)
+    line.say_names(&desk.names);
 }
 
-/// The texts of the slots, behind a text.
-pub(crate) fn slots(
-    alloc: Global,
-    out: &mut String,
-    mut bytes: Vec<u8>,
-    desk: &JournalDesk,
-) -> Read<()> {
-    for slot in &desk.values.slots {
-        slot_bytes(alloc, &mut bytes, slot, &desk.values.names)?;
+// The texts of the values.
+fn values(desk: &mut Desk, line: &mut Line<'_>) {
+    desk.read(line);
+    let mut bytes = Vec::new(line.alloc());
+    for value in &desk.values {
+        push_value(line, &mut bytes, value, &desk.names);
     }
-    Ok(push_bytes(out, &bytes)?)
+    line.say_bytes(&bytes);
 }
 
-fn value_bytes(alloc: Global, out: &mut Vec<u8>, value: &Value, names: &Names) -> Read<()> {
-    if !is_number(value) {
-        return Err(Halt::Of(Unreadable));
+// The texts of the slots, behind a text.
+fn slots(desk: &mut Desk, line: &mut Line<'_>) {
+    let mut bytes = line.bytes();
+    desk.read(line);
+    for slot in &desk.slots {
+        push_slot(line, &mut bytes, slot, &desk.names);
     }
-    Ok(text(alloc, value, names, out)?)
+    line.say_bytes(&bytes);
 }
 
-fn slot_bytes(alloc: Global, out: &mut Vec<u8>, slot: &Slot, names: &Names) -> Read<()> {
-    if !is_number_slot(slot) {
-        return Err(Halt::Of(Unreadable));
-    }
-    Ok(slot_text(alloc, slot, names, out)?)
-}
-
-/// The line of the one entry.
-pub(crate) fn line(alloc: Global, out: &mut String, k: u64, desk: &JournalDesk) -> Read<()> {
-    let mut bytes = Vec::new(alloc);
-    for entry in desk.entries.as_slice() {
-        line_bytes(alloc, &mut bytes, k, entry, &desk.values.names)?;
-    }
-    Ok(push_bytes(out, &bytes)?)
-}
-
-fn line_bytes(alloc: Global, out: &mut Vec<u8>, k: u64, entry: &Entry, names: &Names) -> Read<()> {
-    if !has_log_line(entry) {
-        return Err(Halt::Of(Unreadable));
-    }
-    Ok(log_line(alloc, k, entry, names, out)?)
-}
-
-/// The report of all entries.
-pub(crate) fn report(
-    alloc: Global,
-    out: &mut String,
-    last: &[u8],
-    has_log: bool,
-    desk: &JournalDesk,
-) -> Read<()> {
-    let report = if has_log {
-        logged(alloc, last, &desk.entries, &desk.values.names)?
+fn push_value(line: &mut Line<'_>, out: &mut Vec<u8>, value: &Value, names: &Names) {
+    if is_number(value) {
+        note(line, text(line.alloc(), value, names, out));
     } else {
-        report_text(alloc, &desk.entries, false, last, &desk.values.names)?
-    };
-    Ok(push_bytes(out, &report)?)
+        line.refuse();
+    }
 }
 
-fn logged(alloc: Global, last: &[u8], entries: &EntryList, names: &Names) -> Read<Vec<u8>> {
-    if !have_log_lines(entries.as_slice()) {
-        return Err(Halt::Of(Unreadable));
+fn push_slot(line: &mut Line<'_>, out: &mut Vec<u8>, slot: &Slot, names: &Names) {
+    if is_number_slot(slot) {
+        note(line, slot_text(line.alloc(), slot, names, out));
+    } else {
+        line.refuse();
     }
-    Ok(report_text(alloc, entries, true, last, names)?)
+}
+
+fn note(line: &mut Line<'_>, written: Result<(), OutOfMemory>) {
+    if written.is_err() {
+        line.fall_short();
+    }
+}
+
+// The lines of the entries, of which there is one.
+fn lines(desk: &mut Desk, line: &mut Line<'_>) {
+    let k = line.whole();
+    desk.read(line);
+    let mut bytes = Vec::new(line.alloc());
+    for entry in desk.entries.as_slice() {
+        push_line(line, &mut bytes, k, entry, &desk.names);
+    }
+    line.say_bytes(&bytes);
+}
+
+fn push_line(line: &mut Line<'_>, out: &mut Vec<u8>, k: u64, entry: &Entry, names: &Names) {
+    if has_log_line(entry) {
+        note(line, log_line(line.alloc(), k, entry, names, out));
+    } else {
+        line.refuse();
+    }
+}
+
+// The report of all entries.
+fn report(desk: &mut Desk, line: &mut Line<'_>) {
+    let last = line.bytes();
+    let has_log = line.number() == 1;
+    desk.read(line);
+    if has_log {
+        say_logged(line, &last, &desk.entries, &desk.names);
+    } else {
+        say_report(line, report_text(line.alloc(), &desk.entries, false, &last, &desk.names));
+    }
+}
+
+fn say_logged(line: &mut Line<'_>, last: &[u8], entries: &EntryList, names: &Names) {
+    if have_log_lines(entries.as_slice()) {
+        say_report(line, report_text(line.alloc(), entries, true, last, names));
+    } else {
+        line.refuse();
+    }
+}
+
+fn say_report(line: &mut Line<'_>, report: Result<Vec<u8>, OutOfMemory>) {
+    match report {
+        Ok(bytes) => line.say_bytes(&bytes),
+        Err(OutOfMemory) => line.fall_short(),
+    }
 }

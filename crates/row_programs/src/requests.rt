@@ -1,14 +1,16 @@
 // One line after another, and which library answers it.
 
-use crate::{judges, machines, programs};
-use row_trees::RunDesk;
-use row_words::{Read, Words};
+use row_desk::Desk;
+use row_words::Line;
 use std::alloc::Global;
 use std::io::{self, BufRead, BufReader, BufWriter, ErrorKind, Write};
 use std::rt::Clock;
-use vdm_kinds::Halt;
+use vdm_names::Names;
 
 /// Answers each line of the input by a line of the output.
+///
+/// # Errors
+/// A read or a write that fails, and want of memory, after which a line has no answer.
 pub fn serve<R: Clock, I: io::Read + Drop, O: Write + Drop>(
     rt: &R,
     alloc: Global,
@@ -16,67 +18,44 @@ pub fn serve<R: Clock, I: io::Read + Drop, O: Write + Drop>(
     output: O,
 ) -> io::Result<()> {
     let mut out = BufWriter::new(alloc, output)?;
-    let mut desk = RunDesk::new(alloc).map_err(|_| ErrorKind::OutOfMemory)?;
     for line in BufReader::new(alloc, input)?.lines(alloc) {
-        let line = line?;
-        let answer = answer(rt, alloc, line.as_str(), &mut desk)?;
-        writeln!(out, "{answer}")?;
+        write_answer(rt, alloc, line?.as_str(), &mut out)?;
     }
     out.flush()
 }
 
-// The line of an answer.
-fn answer<R: Clock>(rt: &R, alloc: Global, line: &str, desk: &mut RunDesk) -> io::Result<String> {
-    let mut out = String::new(alloc);
-    match line.strip_prefix("time ") {
-        Some(asked) => row_values::push_time(rt, alloc, &mut out, asked)?,
-        None => push_answer(alloc, &mut out, line, desk)?,
+fn write_answer<R: Clock, O: Write>(rt: &R, alloc: Global, asked: &str, out: &mut O) -> io::Result<()> {
+    let mut line = Line::new(alloc, asked);
+    answer(rt, &mut line);
+    if line.is_short() {
+        return Err(ErrorKind::OutOfMemory.into());
     }
-    Ok(out)
+    out.write_all(line.answer().as_bytes())?;
+    out.write_all(b"\n")
 }
 
-fn push_answer(alloc: Global, out: &mut String, line: &str, desk: &mut RunDesk) -> io::Result<()> {
-    match answer_to(alloc, out, &mut Words::new(line), desk) {
-        Ok(()) => Ok(()),
-        Err(Halt::Of(_)) => {
-            out.clear();
-            Ok(out.push_str("unreadable")?)
-        }
-        Err(Halt::OutOfMemory) => Err(ErrorKind::OutOfMemory.into()),
+fn answer<R: Clock>(rt: &R, line: &mut Line<'_>) {
+    match line.word() {
+        "time" => row_values::answer_time(rt, line),
+        "main" => row_calls::answer(line),
+        word => answer_over_desk(line, word),
     }
 }
 
-fn answer_to(
-    alloc: Global,
-    out: &mut String,
-    words: &mut Words<'_>,
-    desk: &mut RunDesk,
-) -> Read<()> {
-    desk.clear(alloc)?;
-    let word = words.word();
-    match word {
-        "main" => programs::answer(alloc, out, words),
-        "play" | "calls" | "asks" => machines::answer(alloc, out, word, words, desk),
-        "judge" | "ordered" | "finish" | "run" => { judges::answer(alloc, out, word, words, desk) }
-        _ => answer_of_library(alloc, out, word, words, desk),
+fn answer_over_desk(line: &mut Line<'_>, word: &str) {
+    match Names::new(line.alloc()) {
+        Ok(names) => answer_by(&mut Desk::new(line.alloc(), names), line, word),
+        Err(_) => line.fall_short(),
     }
 }
 
-fn answer_of_library(
-    alloc: Global,
-    out: &mut String,
-    word: &str,
-    words: &mut Words<'_>,
-    desk: &mut RunDesk,
-) -> Read<()> {
-    if let Some(answer) = row_values::answer(alloc, out, word, words, &mut desk.journal.values) {
-        return answer;
-    }
-    if let Some(answer) = row_logs::answer(alloc, out, word, words, &mut desk.journal) {
-        return answer;
-    }
-    match row_runs::answer(alloc, out, word, words, desk) {
-        Some(answer) => answer,
-        None => row_journals::answer(alloc, out, word, words, &mut desk.journal),
+// By the first library whose word it is.
+fn answer_by(desk: &mut Desk, line: &mut Line<'_>, word: &str) {
+    let is_answered = row_values::answer(desk, line, word)
+        || row_logs::answer(desk, line, word)
+        || row_runs::answer(desk, line, word)
+        || row_machines::answer(desk, line, word);
+    if !is_answered {
+        line.refuse();
     }
 }

@@ -7,24 +7,17 @@ mod stores;
 mod tokens;
 mod trees;
 
-use row_trees::RunDesk;
-use row_words::{Read, Words};
-use std::alloc::Global;
+use row_desk::Desk;
+use row_words::Line;
 
-/// Appends the answer to a request; none where the word is none of this library's.
-pub fn answer(
-    alloc: Global,
-    out: &mut String,
-    word: &str,
-    words: &mut Words<'_>,
-    desk: &mut RunDesk,
-) -> Option<Read<()>> {
+/// Answers a request; tells whether the word is one of this library's.
+pub fn answer(desk: &mut Desk, line: &mut Line<'_>, word: &str) -> bool {
     match word {
-        "tokens" | "spots" | "token-names" => Some(tokens::answer(alloc, out, word, words)),
-        "tree" | "spec" | "accepts" | "expr" | "terms" => Some(trees::answer(
-            alloc, out, word, words, desk,
-        )),
-        "store" | "held" => Some(stores::answer(alloc, out, word, words, desk)),
-        _ => None,
+        "tokens" | "spots" | "token-names" => tokens::answer(desk, line, word),
+        "spec" | "accepts" => trees::specification(desk, line, word),
+        "tree" | "expr" | "terms" => trees::answer(desk, line, word),
+        "store" | "held" => stores::answer(desk, line, word),
+        _ => return false,
     }
+    true
 }

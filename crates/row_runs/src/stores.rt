@@ -3,72 +3,53 @@
 
 use plain_legal::is_ready;
 use plain_store::{Store, state_of};
-use row_desk::push_entries;
-use row_trees::RunDesk;
-use row_words::{Read, Words, push_names, push_shown};
+use row_desk::{Desk, say_entries};
+use row_words::Line;
 use run_journal::Question;
-use std::alloc::Global;
-use vdm_kinds::VarRef;
+use std::mem;
+use vdm_kinds::{OutOfMemory, VarRef};
 use vdm_tree::Spec;
 
-pub(crate) fn answer(
-    alloc: Global,
-    out: &mut String,
-    word: &str,
-    words: &mut Words<'_>,
-    desk: &mut RunDesk,
-) -> Read<()> {
+pub(crate) fn answer(desk: &mut Desk, line: &mut Line<'_>, word: &str) {
     if word == "store" {
-        desk.read(alloc, words)?;
-        store(alloc, out, desk)?;
+        desk.read(line);
+        store(desk, line);
     } else {
-        let object = words.number()?;
-        desk.read(alloc, words)?;
-        held(alloc, out, object, desk)?;
+        let object = line.number();
+        desk.read(line);
+        held(desk, line, object);
     }
-    Ok(push_names(out, &desk.journal.values.names)?)
+    line.say_names(&desk.names);
 }
 
-fn store(alloc: Global, out: &mut String, desk: &mut RunDesk) -> Read<()> {
-    let questions = desk.journal.questions.split_off(0)?;
-    store_over(alloc, out, &desk.spec, &mut Store::new(alloc), questions)
-}
-
-// The store is lent, since a function that owns it proves its dropping at each of its exits.
-fn store_over(
-    alloc: Global,
-    out: &mut String,
-    spec: &Spec,
-    store: &mut Store,
-    questions: Vec<Question>,
-) -> Read<()> {
+fn store(desk: &mut Desk, line: &mut Line<'_>) {
+    let questions = mem::replace(&mut desk.questions, Vec::new(line.alloc()));
+    let mut store = Store::new(line.alloc());
     for question in questions {
-        push_answered(alloc, out, spec, store, question)?;
-        out.push_str("; ")?;
+        say_answered(line, &desk.spec, &mut store, question);
+        line.say("; ");
     }
-    out.push_str("entries")?;
-    push_entries(out, store.entries())
+    line.say("entries");
+    say_entries(line, store.entries());
 }
 
-fn push_answered(
-    alloc: Global,
-    out: &mut String,
-    spec: &Spec,
-    store: &mut Store,
-    question: Question,
-) -> Read<()> {
-    if !is_ready(spec, store.entries().as_slice(), &question) {
-        return Ok(out.push_str("not ready")?);
+fn say_answered(line: &mut Line<'_>, spec: &Spec, store: &mut Store, question: Question) {
+    if is_ready(spec, store.entries().as_slice(), &question) {
+        match store.answer(line.alloc(), spec, question) {
+            Ok(answer) => line.show(&answer),
+            Err(OutOfMemory) => line.fall_short(),
+        }
+    } else {
+        line.say("not ready");
     }
-    let answer = store.answer(alloc, spec, question)?;
-    Ok(push_shown(out, &answer)?)
 }
 
-fn held(alloc: Global, out: &mut String, object: u32, desk: &RunDesk) -> Read<()> {
-    let (class, name) = desk.journal.values.last_names()?;
+fn held(desk: &Desk, line: &mut Line<'_>, object: u32) {
+    let (class, name) = desk.last_names(line);
     let variable = VarRef { class, name };
-    match state_of(alloc, &desk.spec, &desk.journal.entries, object, variable)? {
-        Some(slot) => Ok(push_shown(out, &slot)?),
-        None => Ok(out.push_str("none")?),
+    match state_of(line.alloc(), &desk.spec, &desk.entries, object, variable) {
+        Ok(Some(slot)) => line.show(&slot),
+        Ok(None) => line.say("none"),
+        Err(OutOfMemory) => line.fall_short(),
     }
 }

@@ -4,99 +4,85 @@
 // texts.
 
 use first_tokens::lex;
-use row_words::{Read, Unreadable, Words, push_blank, push_shown, push_texts};
-use std::alloc::Global;
-use std::fmt::Write;
+use row_desk::Desk;
+use row_words::Line;
 use vdm_grammar::{Token, TokenKind};
-use vdm_kinds::{Halt, OutOfMemory, Part};
+use vdm_kinds::{Halt, Part};
 use vdm_names::Names;
 
 /// More bytes than any row has.
 const MOST: usize = 1_000_000;
 
-pub(crate) fn answer(
-    alloc: Global,
-    out: &mut String,
-    word: &str,
-    words: &mut Words<'_>,
-) -> Read<()> {
-    let mut names = Names::new(alloc)?;
-    answer_over(alloc, out, word, words, &mut names)
-}
-
-// The names are lent, since a function that owns them proves their dropping at each of its exits.
-fn answer_over(
-    alloc: Global,
-    out: &mut String,
-    word: &str,
-    words: &mut Words<'_>,
-    names: &mut Names,
-) -> Read<()> {
-    match found_by(alloc, words, names)? {
-        Some(tokens) => push_tokens(out, word, &tokens, names),
-        None => Ok(out.push_str("refused")?),
+pub(crate) fn answer(desk: &mut Desk, line: &mut Line<'_>, word: &str) {
+    let part = line.part();
+    let found = lexed(line, part, &mut desk.names);
+    if line.is_over() {
+        say_found(line, word, found, &desk.names);
+    } else {
+        let found = lexed(line, Part::Expr, &mut desk.names);
+        say_found(line, word, found, &desk.names);
     }
 }
 
-fn push_tokens(out: &mut String, word: &str, tokens: &[Token], names: &Names) -> Read<()> {
-    match word {
-        "token-names" => push_all_names(out, names),
-        _ if tokens.is_empty() => Ok(out.push_str("no token")?),
-        "tokens" => Ok(push_kinds(out, tokens)?),
-        _ => Ok(push_spots(out, tokens)?),
-    }
-}
-
-fn found_by(alloc: Global, words: &mut Words<'_>, names: &mut Names) -> Read<Option<Vec<Token>>> {
-    let part = words.part()?;
-    let found = lexed(alloc, part, &words.text(alloc)?, names)?;
-    if words.is_over() {
-        return Ok(found);
-    }
-    lexed(alloc, Part::Expr, &words.text(alloc)?, names)
-}
-
-fn push_all_names(out: &mut String, names: &Names) -> Read<()> {
-    let count = names.len();
-    write!(out, "{count}:")?;
-    Ok(push_texts(out, names)?)
-}
-
-fn lexed(alloc: Global, part: Part, text: &[u8], names: &mut Names) -> Read<Option<Vec<Token>>> {
+// The tokens of the text that stands next, none where it is refused.
+fn lexed(line: &mut Line<'_>, part: Part, names: &mut Names) -> Option<Vec<Token>> {
+    let text = line.bytes();
     if text.len() > MOST || names.len() > MOST {
-        return Err(Halt::Of(Unreadable));
+        line.refuse();
+        return None;
     }
-    match lex(alloc, part, text, names) {
-        Ok(tokens) => Ok(Some(tokens)),
-        Err(Halt::Of(_)) => Ok(None),
-        Err(Halt::OutOfMemory) => Err(Halt::OutOfMemory),
+    match lex(line.alloc(), part, &text, names) {
+        Ok(tokens) => Some(tokens),
+        Err(Halt::Of(_)) => None,
+        Err(Halt::OutOfMemory) => {
+            line.fall_short();
+            None
+        }
     }
 }
 
-fn push_kinds(out: &mut String, tokens: &[Token]) -> Result<(), OutOfMemory> {
+fn say_found(line: &mut Line<'_>, word: &str, found: Option<Vec<Token>>, names: &Names) {
+    match found {
+        Some(tokens) => say_tokens(line, word, &tokens, names),
+        None => line.say("refused"),
+    }
+}
+
+fn say_tokens(line: &mut Line<'_>, word: &str, tokens: &[Token], names: &Names) {
+    if word == "token-names" {
+        line.say_count(names.len());
+        line.say(":");
+        line.say_texts(names);
+    } else if tokens.is_empty() {
+        line.say("no token");
+    } else if word == "tokens" {
+        say_kinds(line, tokens);
+    } else {
+        say_spots(line, tokens);
+    }
+}
+
+fn say_kinds(line: &mut Line<'_>, tokens: &[Token]) {
     for (index, token) in tokens.iter().enumerate() {
-        push_blank(out, index)?;
-        push_kind(out, token.kind)?;
+        line.say_blank(index);
+        say_kind(line, token.kind);
     }
-    Ok(())
 }
 
-fn push_kind(out: &mut String, kind: TokenKind) -> Result<(), OutOfMemory> {
+fn say_kind(line: &mut Line<'_>, kind: TokenKind) {
     match kind {
         TokenKind::Name(name) => {
-            let number = name.0;
-            write!(out, "#{number}")?;
+            line.say("#");
+            line.say_number(u64::from(name.0));
         }
-        TokenKind::Whole(value) => write!(out, "{value}")?,
-        TokenKind::Mark(mark) => write!(out, "{mark:?}")?,
+        TokenKind::Whole(value) => line.show_bare(&value),
+        TokenKind::Mark(mark) => line.show_bare(&mark),
     }
-    Ok(())
 }
 
-fn push_spots(out: &mut String, tokens: &[Token]) -> Result<(), OutOfMemory> {
+fn say_spots(line: &mut Line<'_>, tokens: &[Token]) {
     for (index, token) in tokens.iter().enumerate() {
-        push_blank(out, index)?;
-        push_shown(out, &token.place)?;
+        line.say_blank(index);
+        line.show(&token.place);
     }
-    Ok(())
 }

@@ -2,39 +2,37 @@
 // tree of an expression behind a specification, or its refusal. `terms`: how many terms the last tree has.
 
 use first_reader::read_specification;
-use row_trees::RunDesk;
-use row_words::{Read, Words, push_names, push_refused, push_shown, push_yes};
-use std::alloc::Global;
-use std::fmt::Write;
+use row_desk::Desk;
+use row_words::Line;
 use vdm_kinds::{Halt, SpecFault};
 use vdm_names::Names;
 use vdm_tree::{Expr, Spec};
 
-pub(crate) fn answer(
-    alloc: Global,
-    out: &mut String,
-    word: &str,
-    words: &mut Words<'_>,
-    desk: &mut RunDesk,
-) -> Read<()> {
+type ReadSpec = Result<Spec, Halt<SpecFault>>;
+
+pub(crate) fn answer(desk: &mut Desk, line: &mut Line<'_>, word: &str) {
     match word {
-        "spec" => return spec(alloc, out, &words.text(alloc)?),
-        "accepts" => return accepts(alloc, out, &words.text(alloc)?),
-        "expr" => expression(alloc, out, words, desk)?,
-        _ => {
-            desk.read(alloc, words)?;
-            push_tree(out, word, desk.tree()?)?;
-        }
+        "expr" => expression(desk, line),
+        "terms" => terms(desk, line),
+        _ => tree(desk, line),
     }
-    Ok(push_names(out, &desk.journal.values.names)?)
+    line.say_names(&desk.names);
 }
 
-fn push_tree(out: &mut String, word: &str, tree: &Expr) -> Read<()> {
-    if word == "terms" {
-        let terms = terms_of(tree);
-        return Ok(write!(out, "{terms}")?);
+fn tree(desk: &mut Desk, line: &mut Line<'_>) {
+    desk.read(line);
+    match desk.tree() {
+        Some(tree) => line.show(tree),
+        None => line.refuse(),
     }
-    Ok(push_shown(out, tree)?)
+}
+
+fn terms(desk: &mut Desk, line: &mut Line<'_>) {
+    desk.read(line);
+    match desk.tree() {
+        Some(tree) => line.say_number(terms_of(tree)),
+        None => line.refuse(),
+    }
 }
 
 // How many literals a sum of literals has.
@@ -46,57 +44,49 @@ fn terms_of(tree: &Expr) -> u64 {
     }
 }
 
-// What is read and the names are lent, since a function that owns them proves their dropping at each of its exits.
-fn spec(alloc: Global, out: &mut String, text: &[u8]) -> Read<()> {
-    let mut names = Names::new(alloc)?;
-    let read = read_specification(alloc, text, &mut names);
-    push_read(out, &read, &names)
+fn expression(desk: &mut Desk, line: &mut Line<'_>) {
+    let text = line.bytes();
+    desk.read(line);
+    match desk.expression(line.alloc(), &text) {
+        Ok(tree) => line.show(&tree),
+        Err(Halt::Of(fault)) => line.say_refusal(fault),
+        Err(Halt::OutOfMemory) => line.fall_short(),
+    }
 }
 
-fn push_read(out: &mut String, read: &Result<Spec, Halt<SpecFault>>, names: &Names) -> Read<()> {
-    push_spec(out, read)?;
-    Ok(push_names(out, names)?)
+pub(crate) fn specification(desk: &mut Desk, line: &mut Line<'_>, word: &str) {
+    let text = line.bytes();
+    match Names::new(line.alloc()) {
+        Ok(mut names) => {
+            let read = read_specification(line.alloc(), &text, &mut names);
+            desk.names = names;
+            say_read(desk, line, word, read);
+        }
+        Err(_) => line.fall_short(),
+    }
 }
 
-fn push_spec(out: &mut String, read: &Result<Spec, Halt<SpecFault>>) -> Read<()> {
+fn say_read(desk: &Desk, line: &mut Line<'_>, word: &str, read: ReadSpec) {
+    if word == "accepts" {
+        say_accepted(line, read);
+    } else {
+        say_spec(line, read);
+        line.say_names(&desk.names);
+    }
+}
+
+fn say_spec(line: &mut Line<'_>, read: ReadSpec) {
     match read {
-        Ok(spec) => Ok(push_shown(out, spec)?),
-        Err(Halt::Of(fault)) => Ok(push_refused(out, *fault)?),
-        Err(Halt::OutOfMemory) => Err(Halt::OutOfMemory),
+        Ok(spec) => line.show(&spec),
+        Err(Halt::Of(fault)) => line.say_refusal(fault),
+        Err(Halt::OutOfMemory) => line.fall_short(),
     }
 }
 
-fn push_halt(out: &mut String, halt: Halt<SpecFault>) -> Read<()> {
-    match halt {
-        Halt::Of(fault) => Ok(push_refused(out, fault)?),
-        Halt::OutOfMemory => Err(Halt::OutOfMemory),
-    }
-}
-
-fn accepts(alloc: Global, out: &mut String, text: &[u8]) -> Read<()> {
-    let mut names = Names::new(alloc)?;
-    let read = read_specification(alloc, text, &mut names);
-    push_accepted(out, &read)
-}
-
-fn push_accepted(out: &mut String, read: &Result<Spec, Halt<SpecFault>>) -> Read<()> {
+fn say_accepted(line: &mut Line<'_>, read: ReadSpec) {
     match read {
-        Ok(_) => Ok(push_yes(out, true)?),
-        Err(Halt::Of(_)) => Ok(push_yes(out, false)?),
-        Err(Halt::OutOfMemory) => Err(Halt::OutOfMemory),
-    }
-}
-
-fn expression(
-    alloc: Global,
-    out: &mut String,
-    words: &mut Words<'_>,
-    desk: &mut RunDesk,
-) -> Read<()> {
-    let text = words.text(alloc)?;
-    desk.read(alloc, words)?;
-    match desk.expression(alloc, &text)? {
-        Ok(tree) => Ok(push_shown(out, &tree)?),
-        Err(halt) => push_halt(out, halt),
+        Ok(_) => line.say_whether(true),
+        Err(Halt::Of(_)) => line.say_whether(false),
+        Err(Halt::OutOfMemory) => line.fall_short(),
     }
 }

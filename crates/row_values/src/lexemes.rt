@@ -2,63 +2,53 @@
 // Text, Quote, Reserved, Sign, End) and its bytes, or the fault. `places PART TEXT`: where they begin, as
 // line:column:byte.
 
-use row_words::{Read, Words, push_blank, push_refused};
-use std::alloc::Global;
-use std::fmt::Write;
-use vdm_kinds::{Halt, OutOfMemory};
+use row_words::Line;
+use vdm_kinds::Halt;
 use vdm_lexer::{LexKind, Lexeme, lex};
 
-pub(crate) fn answer(
-    alloc: Global,
-    out: &mut String,
-    word: &str,
-    words: &mut Words<'_>,
-) -> Read<()> {
-    let part = words.part()?;
-    let text = words.text(alloc)?;
-    match lex(alloc, part, &text) {
-        Ok(lexemes) => Ok(push_all(out, &lexemes, word == "lex")?),
-        Err(Halt::Of(fault)) => Ok(push_refused(out, fault)?),
-        Err(Halt::OutOfMemory) => Err(Halt::OutOfMemory),
+pub(crate) fn answer(line: &mut Line<'_>, word: &str) {
+    let part = line.part();
+    let text = line.bytes();
+    match lex(line.alloc(), part, &text) {
+        Ok(lexemes) => say_all(line, &lexemes, word == "lex"),
+        Err(Halt::Of(fault)) => line.say_refusal(fault),
+        Err(Halt::OutOfMemory) => line.fall_short(),
     }
 }
 
-fn push_all(out: &mut String, lexemes: &[Lexeme], has_kinds: bool) -> Result<(), OutOfMemory> {
+fn say_all(line: &mut Line<'_>, lexemes: &[Lexeme], has_kinds: bool) {
     for (index, lexeme) in lexemes.iter().enumerate() {
-        push_blank(out, index)?;
+        line.say_blank(index);
         if has_kinds {
-            push_kind(out, lexeme)?;
+            say_kind(line, lexeme);
         } else {
-            push_beginning(out, lexeme)?;
+            say_beginning(line, lexeme);
         }
     }
-    Ok(())
 }
 
-fn push_kind(out: &mut String, lexeme: &Lexeme) -> Result<(), OutOfMemory> {
-    let letter = letter_of(lexeme.kind);
-    let bytes = lexeme.end.saturating_sub(lexeme.start);
-    write!(out, "{letter}{bytes}")?;
-    Ok(())
+fn say_kind(line: &mut Line<'_>, lexeme: &Lexeme) {
+    line.say(letter_of(lexeme.kind));
+    line.say_count(lexeme.end.saturating_sub(lexeme.start));
 }
 
-fn push_beginning(out: &mut String, lexeme: &Lexeme) -> Result<(), OutOfMemory> {
-    let line = lexeme.place.line;
-    let column = lexeme.place.column;
-    let start = lexeme.start;
-    write!(out, "{line}:{column}:{start}")?;
-    Ok(())
+fn say_beginning(line: &mut Line<'_>, lexeme: &Lexeme) {
+    line.say_number(u64::from(lexeme.place.line));
+    line.say(":");
+    line.say_number(u64::from(lexeme.place.column));
+    line.say(":");
+    line.say_count(lexeme.start);
 }
 
-fn letter_of(kind: LexKind) -> char {
+fn letter_of(kind: LexKind) -> &'static str {
     match kind {
-        LexKind::Identifier => 'I',
-        LexKind::Whole => 'W',
-        LexKind::Character => 'C',
-        LexKind::Text => 'T',
-        LexKind::Quote => 'Q',
-        LexKind::Reserved => 'R',
-        LexKind::Sign => 'S',
-        LexKind::End => 'E',
+        LexKind::Identifier => "I",
+        LexKind::Whole => "W",
+        LexKind::Character => "C",
+        LexKind::Text => "T",
+        LexKind::Quote => "Q",
+        LexKind::Reserved => "R",
+        LexKind::Sign => "S",
+        LexKind::End => "E",
     }
 }

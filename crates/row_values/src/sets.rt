@@ -3,75 +3,80 @@
 // plain program leaves, which inserts one after another, and whether the set or map has these.
 
 use crate::insertion::rising_by_insertion;
-use crate::values::push_size;
-use row_desk::pairs_of;
-use row_words::{Read, push_shown};
-use std::alloc::Global;
-use std::fmt::Write;
-use vdm_kinds::{Halt, RunFault};
+use crate::values::say_size;
+use row_desk::{Desk, pairs_of};
+use row_words::Line;
+use vdm_kinds::{Halt, OutOfMemory, RunFault};
 use vdm_sets::{map_from, set_from};
 use vdm_values::{Node, PairList, Value, ValueList};
 
-pub(crate) fn answer(alloc: Global, out: &mut String, word: &str, items: Vec<Value>) -> Read<()> {
+pub(crate) fn answer(desk: &mut Desk, line: &mut Line<'_>, word: &str) {
+    let items = desk.all_values(line);
     match word {
-        "insertion" => inserted(alloc, out, items),
-        "insertion-of-pairs" => inserted_pairs(alloc, out, pairs_of(alloc, items)?),
-        "set" => push_made(out, set_from(alloc, ValueList::from_vec(items))),
-        "set-size" => push_made_size(out, set_from(alloc, ValueList::from_vec(items))),
-        "map" => push_made(out, mapped(alloc, items)?),
-        _ => push_made_size(out, mapped(alloc, items)?),
+        "set" => say_value(line, set_from(line.alloc(), ValueList::from_vec(items))),
+        "set-size" => say_value_size(line, set_from(line.alloc(), ValueList::from_vec(items))),
+        "insertion" => inserted(line, ValueList::from_vec(items)),
+        _ => answer_of_pairs(line, word, items),
+    }
+    line.say_names(&desk.names);
+}
+
+fn answer_of_pairs(line: &mut Line<'_>, word: &str, items: Vec<Value>) {
+    let pairs = PairList::from_vec(pairs_of(line, items));
+    match word {
+        "map" => say_value(line, map_from(line.alloc(), pairs)),
+        "map-size" => say_value_size(line, map_from(line.alloc(), pairs)),
+        _ => inserted_pairs(line, pairs),
     }
 }
 
-type Made = Result<Value, Halt<RunFault>>;
-
-fn mapped(alloc: Global, items: Vec<Value>) -> Read<Made> {
-    let pairs = PairList::from_vec(pairs_of(alloc, items)?);
-    Ok(map_from(alloc, pairs))
-}
-
-fn push_made(out: &mut String, made: Made) -> Read<()> {
+fn say_value(line: &mut Line<'_>, made: Result<Value, Halt<RunFault>>) {
     match made {
-        Ok(value) => Ok(push_shown(out, &value)?),
-        Err(halt) => push_halt(out, halt),
+        Ok(value) => line.show(&value),
+        Err(halt) => say_halt(line, halt),
     }
 }
 
-fn push_made_size(out: &mut String, made: Made) -> Read<()> {
+fn say_value_size(line: &mut Line<'_>, made: Result<Value, Halt<RunFault>>) {
     match made {
-        Ok(value) => push_size(out, &value),
-        Err(halt) => push_halt(out, halt),
+        Ok(value) => say_size(line, &value),
+        Err(halt) => say_halt(line, halt),
     }
 }
 
-fn push_halt(out: &mut String, halt: Halt<RunFault>) -> Read<()> {
+fn say_halt(line: &mut Line<'_>, halt: Halt<RunFault>) {
     match halt {
-        Halt::Of(fault) => Ok(write!(out, "{} {}", fault.number(), fault.name())?),
-        Halt::OutOfMemory => Err(Halt::OutOfMemory),
+        Halt::Of(fault) => line.say_fault(fault.number(), fault.name()),
+        Halt::OutOfMemory => line.fall_short(),
     }
 }
 
-fn inserted(alloc: Global, out: &mut String, items: Vec<Value>) -> Read<()> {
-    let items = ValueList::from_vec(items);
-    let plain = rising_by_insertion(alloc, items.copy(alloc)?.into_vec())?;
-    push_is_as(
-        out,
-        plain.len(),
-        set_from(alloc, items) == Ok(Value::new(Node::Set(plain))),
-    )
+fn inserted(line: &mut Line<'_>, items: ValueList) {
+    let copy = line.made(items.copy(line.alloc()), ValueList::from_vec(Vec::new(line.alloc())));
+    let plain = plain_of(line, copy.into_vec());
+    line.say_count(plain.len());
+    let is_same = set_from(line.alloc(), items) == Ok(Value::new(Node::Set(plain)));
+    say_is_same(line, is_same);
 }
 
-fn inserted_pairs(alloc: Global, out: &mut String, pairs: Vec<(Value, Value)>) -> Read<()> {
-    let pairs = PairList::from_vec(pairs);
-    let plain = rising_by_insertion(alloc, pairs.copy(alloc)?.into_vec())?;
-    push_is_as(
-        out,
-        plain.len(),
-        map_from(alloc, pairs) == Ok(Value::new(Node::Map(plain))),
-    )
+fn inserted_pairs(line: &mut Line<'_>, pairs: PairList) {
+    let copy = line.made(pairs.copy(line.alloc()), PairList::from_vec(Vec::new(line.alloc())));
+    let plain = plain_of(line, copy.into_vec());
+    line.say_count(plain.len());
+    let is_same = map_from(line.alloc(), pairs) == Ok(Value::new(Node::Map(plain)));
+    say_is_same(line, is_same);
 }
 
-fn push_is_as(out: &mut String, count: usize, is_same: bool) -> Read<()> {
-    write!(out, "{count}")?;
-    Ok(out.push_str(if is_same { ", the same" } else { ", others" })?)
+fn plain_of<T: Ord + Drop>(line: &mut Line<'_>, items: Vec<T>) -> Vec<T> {
+    match rising_by_insertion(line.alloc(), items) {
+        Ok(risen) => risen,
+        Err(OutOfMemory) => {
+            line.fall_short();
+            Vec::new(line.alloc())
+        }
+    }
+}
+
+fn say_is_same(line: &mut Line<'_>, is_same: bool) {
+    line.say(if is_same { ", the same" } else { ", others" });
 }

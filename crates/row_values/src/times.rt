@@ -1,11 +1,10 @@
 // `time set KIND N` and `time lex KIND N`: what was made, and the nanoseconds of the call. Of a set it is how many members
 // it has: the items are N numbers, each one less than the one before (`falling`), or in no order (`scattered`), or one
 // number (`equal`). Of a text of N bytes it is how many lexemes it has, or `refused`: identifiers and blanks
-// (`identifiers`), signs alone (`signs`), or a comment that isn't closed (`comment`).
+// (`identifiers`), signs alone (`signs`), or a comment that isn't closed (`comment`). A clock that cannot be read makes it
+// unreadable.
 
-use std::alloc::{AllocError, Global};
-use std::fmt::Write;
-use std::io::{self, ErrorKind};
+use row_words::Line;
 use std::rt::Clock;
 use std::time::Instant;
 use vdm_kinds::{Halt, Part};
@@ -16,48 +15,57 @@ use vdm_values::{Node, Value, ValueList};
 /// A prime, so its multiples have every remainder of a count that it does not divide.
 const STEP: u64 = 7919;
 
-/// Appends what a call made, and how many nanoseconds it took.
-pub fn push_time<R: Clock>(rt: &R, alloc: Global, out: &mut String, asked: &str) -> io::Result<()> {
-    let (what, rest) = asked.split_once(' ').unwrap_or(("", ""));
-    let (kind, count) = rest.split_once(' ').unwrap_or(("", ""));
-    let Ok(count) = count.parse::<u32>() else {
-        return Ok(out.push_str("unreadable")?);
-    };
-    match what {
-        "set" => time_set(rt, alloc, out, kind, u64::from(count)),
-        "lex" => time_lex(rt, alloc, out, kind, count),
-        _ => Ok(out.push_str("unreadable")?),
+/// Says what a call made, and how many nanoseconds it took.
+pub fn answer_time<R: Clock>(rt: &R, line: &mut Line<'_>) {
+    match line.word() {
+        "set" => time_set(rt, line),
+        "lex" => time_lex(rt, line),
+        _ => line.refuse(),
     }
 }
 
-fn time_set<R: Clock>(
-    rt: &R,
-    alloc: Global,
-    out: &mut String,
-    kind: &str,
-    count: u64,
-) -> io::Result<()> {
-    let items = items(alloc, kind, count)?;
-    let began = Instant::now(rt)?;
-    let made = set_from(alloc, items);
-    let taken = began.elapsed(rt)?.as_nanos();
+fn time_set<R: Clock>(rt: &R, line: &mut Line<'_>) {
+    let kind = line.word();
+    let count = line.number();
+    let items = items(line, kind, u64::from(count));
+    let began = Instant::now(rt).ok();
+    let made = set_from(line.alloc(), items);
+    let taken = nanoseconds(rt, line, began);
     match made {
-        Ok(set) => Ok(write!(out, "{} {taken}", members(&set))?),
-        Err(_) => Err(ErrorKind::OutOfMemory.into()),
+        Ok(set) => say_time(line, members(&set), taken),
+        Err(_) => line.fall_short(),
     }
 }
 
-fn items(alloc: Global, kind: &str, count: u64) -> Result<ValueList, AllocError> {
-    let mut values = Vec::new(alloc);
+// The nanoseconds since then.
+fn nanoseconds<R: Clock>(rt: &R, line: &mut Line<'_>, began: Option<Instant>) -> u64 {
+    let taken = began.and_then(|it| it.elapsed(rt).ok());
+    match taken {
+        Some(taken) => u64::try_from(taken.as_nanos()).unwrap_or(u64::MAX),
+        None => {
+            line.refuse();
+            0
+        }
+    }
+}
+
+fn say_time(line: &mut Line<'_>, count: usize, taken: u64) {
+    line.say_count(count);
+    line.say(" ");
+    line.say_number(taken);
+}
+
+fn items(line: &mut Line<'_>, kind: &str, count: u64) -> ValueList {
+    let mut values = Vec::new(line.alloc());
     for number in 0..count {
         let number = match kind {
             "falling" => count - number,
             "scattered" => number.wrapping_mul(STEP) % count,
             _ => 1,
         };
-        values.push(Value::new(Node::Int(i128::from(number))))?;
+        line.put(&mut values, Value::new(Node::Int(i128::from(number))));
     }
-    Ok(ValueList::from_vec(values))
+    ValueList::from_vec(values)
 }
 
 fn members(set: &Value) -> usize {
@@ -67,41 +75,42 @@ fn members(set: &Value) -> usize {
     }
 }
 
-fn time_lex<R: Clock>(
-    rt: &R,
-    alloc: Global,
-    out: &mut String,
-    kind: &str,
-    length: u32,
-) -> io::Result<()> {
-    let text = text_of(alloc, kind, length)?;
-    let began = Instant::now(rt)?;
-    let found = lex(alloc, Part::Spec, text.as_slice());
-    let taken = began.elapsed(rt)?.as_nanos();
+fn time_lex<R: Clock>(rt: &R, line: &mut Line<'_>) {
+    let kind = line.word();
+    let length = line.number();
+    let text = text_of(line, kind, length);
+    let began = Instant::now(rt).ok();
+    let found = lex(line.alloc(), Part::Spec, text.as_slice());
+    let taken = nanoseconds(rt, line, began);
     match found {
-        Ok(lexemes) => Ok(write!(out, "{} {taken}", lexemes.len())?),
-        Err(Halt::Of(_)) => Ok(write!(out, "refused {taken}")?),
-        Err(Halt::OutOfMemory) => Err(ErrorKind::OutOfMemory.into()),
+        Ok(lexemes) => say_time(line, lexemes.len(), taken),
+        Err(Halt::Of(_)) => say_refused(line, taken),
+        Err(Halt::OutOfMemory) => line.fall_short(),
     }
 }
 
-fn text_of(alloc: Global, kind: &str, length: u32) -> Result<Vec<u8>, AllocError> {
+fn say_refused(line: &mut Line<'_>, taken: u64) {
+    line.say("refused ");
+    line.say_number(taken);
+}
+
+fn text_of(line: &mut Line<'_>, kind: &str, length: u32) -> Vec<u8> {
     match kind {
-        "identifiers" => repeated(alloc, b"", b"counter x' ", length),
-        "signs" => repeated(alloc, b"", b"<=>|->...:->", length),
-        _ => repeated(alloc, b"/* ", b"not closed * / ", length),
+        "identifiers" => repeated(line, b"", b"counter x' ", length),
+        "signs" => repeated(line, b"", b"<=>|->...:->", length),
+        _ => repeated(line, b"/* ", b"not closed * / ", length),
     }
 }
 
 // The bytes of the front, and then those of the part again and again, to a length.
-fn repeated(alloc: Global, front: &[u8], part: &[u8], length: u32) -> Result<Vec<u8>, AllocError> {
-    let mut text = Vec::new(alloc);
+fn repeated(line: &mut Line<'_>, front: &[u8], part: &[u8], length: u32) -> Vec<u8> {
+    let mut text = Vec::new(line.alloc());
     for byte in front
         .iter()
         .chain(part.iter().cycle())
         .take(length as usize)
     {
-        text.push(*byte)?;
+        line.put(&mut text, *byte);
     }
-    Ok(text)
+    text
 }

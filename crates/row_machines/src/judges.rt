@@ -1,0 +1,102 @@
+// `judge UNITS`: whether the entries are a run. `ordered`: whether they stand in the order of one lane. `finish`: how they
+// end. `run UNITS`: the entries of the run, and what these three say of them.
+
+ghost use Rattle.std.specs.Prelude.{◌≤◌, length};
+
+use plain_legal::is_in_order;
+use plain_meaning::is_run;
+use plain_run::{Ran, run};
+use plain_store::{Finish, finish_of};
+use row_desk::{Desk, say_entries};
+use row_words::Line;
+use run_journal::{EntryList, Thread};
+use vdm_kinds::{OutOfMemory, Place, RunFault};
+use vdm_tree::{Expr, Spec};
+use vdm_values::Slot;
+
+pub(crate) fn answer(desk: &mut Desk, line: &mut Line<'_>, word: &str) {
+    let units = line.whole();
+    desk.read(line);
+    if let Some(spec) = desk.spec()
+        && let Some(tree) = desk.tree()
+    {
+        if word == "judge" {
+            say_judged(line, spec, tree, units, &desk.entries);
+        } else {
+            say_run(line, spec, tree, units, &run(line.alloc(), spec, tree, units));
+        }
+    } else {
+        line.refuse();
+    }
+    line.say_names(&desk.names);
+}
+
+fn say_judged(line: &mut Line<'_>, spec: &Spec, tree: &Expr, units: u64, entries: &EntryList)
+    requires { length spec.now.classes.items ≤ 1 }
+{
+    match is_run(line.alloc(), spec, tree, units, entries) {
+        Ok(is_run) => line.say(if is_run { "run" } else { "no run" }),
+        Err(OutOfMemory) => line.fall_short(),
+    }
+}
+
+fn say_run(line: &mut Line<'_>, spec: &Spec, tree: &Expr, units: u64, ran: &Ran)
+    requires { length spec.now.classes.items ≤ 1 }
+{
+    line.say(if ran.is_whole { "whole " } else { "cut short " });
+    say_judged(line, spec, tree, units, &ran.journal);
+    line.say(" ");
+    say_order(line, spec, &ran.journal);
+    line.say(", ");
+    say_finish(line, &ran.journal);
+    say_entries(line, &ran.journal);
+}
+
+pub(crate) fn on_entries(desk: &mut Desk, line: &mut Line<'_>, word: &str) {
+    desk.read(line);
+    if word == "finish" {
+        say_finish(line, &desk.entries);
+    } else {
+        say_order(line, &desk.spec, &desk.entries);
+    }
+    line.say_names(&desk.names);
+}
+
+fn say_order(line: &mut Line<'_>, spec: &Spec, entries: &EntryList) {
+    line.say(if is_in_order(spec, entries) {
+        "in order"
+    } else {
+        "out of order"
+    });
+}
+
+fn say_finish(line: &mut Line<'_>, entries: &EntryList) {
+    match finish_of(entries) {
+        None => line.say("goes on"),
+        Some(Finish::Ended(slot)) => say_ended(line, slot),
+        Some(
+            Finish::Failed {
+                fault,
+                exit,
+                thread,
+                place,
+            },
+        ) => say_failed(line, fault, exit, thread, place),
+    }
+}
+
+fn say_ended(line: &mut Line<'_>, slot: &Slot) {
+    line.say("ended ");
+    line.show(slot);
+}
+
+fn say_failed(line: &mut Line<'_>, fault: RunFault, exit: &Slot, thread: Thread, place: Place) {
+    line.say("failed ");
+    line.say_number(u64::from(fault.number()));
+    line.say(" ");
+    line.show(exit);
+    line.say(" in ");
+    line.show(&thread);
+    line.say(" at ");
+    line.show(&place);
+}
