@@ -78,11 +78,11 @@ journal_is_the_run call told text names tree expression k e p h =
     elim (k.told told e) [
       | inl none ↦ (subst (IsRun tree expression step_limit) (sym none) tt, subst (IsInOrder tree) (sym none) tt)
       | inr r ↦
-        let own = r.1.runs in
-        let same = one_accepted told text r.1.names names own.tree tree own.expression expression (accepted_text call told text r.1 p) h in (
-          subst (λ x. IsRun tree x step_limit call.report.journal) same.2 (subst (λ t. IsRun t own.expression step_limit call.report.journal) same.1 own.run),
-          subst (λ t. IsInOrder t call.report.journal) same.1 own.order,
-        )
+          let own = r.1.runs in
+          let same = one_accepted told text r.1.names names own.tree tree own.expression expression (accepted_text call told text r.1 p) h in (
+            subst (λ x. IsRun tree x step_limit call.report.journal) same.2 (subst (λ t. IsRun t own.expression step_limit call.report.journal) same.1 own.run),
+            subst (λ t. IsInOrder t call.report.journal) same.1 own.order,
+          )
     ]
 
 pub empty_no_command : (call : Call) → KeepsJournal call → IsNoCommand call.words → call.report.journal ≡ []

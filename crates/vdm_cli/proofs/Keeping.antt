@@ -15,7 +15,7 @@ use Rattle.vdm_report.specs.declared.end.End.TheVariants.{Ended, Refused, Usage,
 use Rattle.vdm_report.specs.Ends.{finish_in}
 use Rattle.vdm_report.specs.Outside.{Outside, IsCalm, IsFaulty}
 use Rattle.vdm_report.specs.Written.{Wrote}
-use Rattle.vdm_cli.specs.Meant.{read_of, left_of, WasRead, Runs, MeansRun, MeansUsage, Means}
+use Rattle.vdm_cli.specs.Meant.{read_of, WasRead, Runs, MeansRun, MeansUsage, Means}
 use Rattle.vdm_cli.specs.Headline.{Call, StandsFor, KeepsStatus, KeepsWords, KeepsReading, RunsText, KeepsTexts, RunsOf, KeepsJournal, KeepsOutput, KeepsCauses, Keeps}
 
 -- what was written stands for what is meant

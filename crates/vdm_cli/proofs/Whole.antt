@@ -1,5 +1,5 @@
 -- A whole call: of a command that runs a text, and of faulty words.
-use Rattle.std.specs.Prelude.{◌≡◌, ℕ, ◌+◌, ◌≤◌, Bool, false, List, [], ◌++◌, length, Option, Some, None}
+use Rattle.std.specs.Prelude.{◌≡◌, ℕ, ◌+◌, ◌≤◌, Bool, false, List, [], ◌++◌, Option, Some, None}
 use Rattle.std.specs.Io.KnownBytes.{Consumes}
 use Rattle.std.proofs.Common.{refl, sym, subst, arith, inl}
 use Rattle.run_journal.specs.declared.entry.Entry.{Entry}
@@ -11,7 +11,7 @@ use Rattle.vdm_report.specs.declared.end.End.TheVariants.{Ended, Refused, Usage,
 use Rattle.vdm_report.specs.declared.report.Report.{Report}
 use Rattle.vdm_report.specs.Outside.{Outside, IsCalm, IsUntouched}
 use Rattle.vdm_report.specs.Written.{Wrote}
-use Rattle.vdm_cli.specs.Meant.{ReadsSpec, MeansRun, MeansUsage, Means, RunsCommand}
+use Rattle.vdm_cli.specs.Meant.{ReadsSpec, MeansRun, Means, RunsCommand}
 use Rattle.vdm_cli.specs.Headline.{Call, KeepsStatus, KeepsReading, Keeps}
 use Rattle.vdm_cli.proofs.Keeping.{keeps}
 

@@ -59,8 +59,8 @@ pub record KeepsWords (call : Call) : Type 0 where
   pub usage : call.report.end ≡ Usage → IsNoCommand call.words
   pub no_command : IsNoCommand call.words → IsUsage call
   pub asked : (text : List ℕ) (asks : Bool)
-    → IsRunCommand call.words text asks
-    → call.report.log ≡ asks
+      → IsRunCommand call.words text asks
+      → call.report.log ≡ asks
 
 -- at most one byte past the limit was taken from the front of what was told, and each read but the last took a byte
 pub record Takes (call : Call) (told : List ℕ) : Type 0 where
@@ -75,8 +75,8 @@ pub record Takes (call : Call) (told : List ℕ) : Type 0 where
 -- limit.
 pub record KeepsReading (call : Call) : Type 0 where
   pub told : (told : List ℕ)
-    → call.source.before ≡ Some told
-    → Takes call told
+      → call.source.before ≡ Some told
+      → Takes call told
   pub turns : call.reads_after ≤ call.reads_before + spec_limit + 1
 
 -- the words run the expression of this text, with the log or without
@@ -101,25 +101,25 @@ RefusesTexts words spec fault = (text : List ℕ) × RunsText words text × IsFi
 -- refusal; a run ends only where the source was read to its end and both texts are accepted, and there exactly.
 pub record KeepsTexts (call : Call) : Type 0 where
   pub refused : (told : List ℕ) (fault : SpecFault)
-    → call.source.before ≡ Some told
-    → call.report.end ≡ Refused fault
-    → (call.source.after ≡ Some (left_of told)) × RefusesTexts call.words (read_of told) fault
+      → call.source.before ≡ Some told
+      → call.report.end ≡ Refused fault
+      → (call.source.after ≡ Some (left_of told)) × RefusesTexts call.words (read_of told) fault
   pub refuses : (told text : List ℕ) (fault : SpecFault)
-    → call.source.before ≡ Some told
-    → RunsText call.words text
-    → (IsFaulty call.source → ⊥)
-    → IsFirstRefusal (read_of told) text fault
-    → StandsFor call.report.end (Refused fault)
+      → call.source.before ≡ Some told
+      → RunsText call.words text
+      → (IsFaulty call.source → ⊥)
+      → IsFirstRefusal (read_of told) text fault
+      → StandsFor call.report.end (Refused fault)
   pub finished : (told : List ℕ)
-    → call.source.before ≡ Some told
-    → IsSome (finish_in call.report.end)
-    → (call.source.after ≡ Some []) × AcceptsTexts call.words told
+      → call.source.before ≡ Some told
+      → IsSome (finish_in call.report.end)
+      → (call.source.after ≡ Some []) × AcceptsTexts call.words told
   pub finishes : (told text : List ℕ) (names : List (List ℕ)) (tree : SpecTree) (expression : ExprTree)
-    → call.source.before ≡ Some told
-    → RunsText call.words text
-    → (IsFaulty call.source → ⊥)
-    → IsAccepted told text names tree expression
-    → IsSome (finish_in call.report.end) ⊎ ((call.report.end ≡ WriteFault) ⊎ (call.report.end ≡ OutOfMemory))
+      → call.source.before ≡ Some told
+      → RunsText call.words text
+      → (IsFaulty call.source → ⊥)
+      → IsAccepted told text names tree expression
+      → IsSome (finish_in call.report.end) ⊎ ((call.report.end ≡ WriteFault) ⊎ (call.report.end ≡ OutOfMemory))
 
 -- the journal is a run of the trees of the words' text and of this specification
 pub record RunsOf (call : Call) (spec : List ℕ) : Type 0 where
@@ -132,10 +132,10 @@ pub record RunsOf (call : Call) (spec : List ℕ) : Type 0 where
 -- source was read to its end. Of a source that tells nothing it is a run behind some specification.
 pub record KeepsJournal (call : Call) : Type 0 where
   pub told : (told : List ℕ)
-    → call.source.before ≡ Some told
-    → (call.report.journal ≡ []) ⊎ ((call.source.after ≡ Some []) × RunsOf call told)
+      → call.source.before ≡ Some told
+      → (call.report.journal ≡ []) ⊎ ((call.source.after ≡ Some []) × RunsOf call told)
   pub silent : call.source.before ≡ None
-    → (call.report.journal ≡ []) ⊎ ((spec : List ℕ) × RunsOf call spec)
+      → (call.report.journal ≡ []) ⊎ ((spec : List ℕ) × RunsOf call spec)
 
 -- The end that is meant behind these bytes that were read; and the sink got the output: the lines of the journal where the
 -- log is asked for, over the names of the texts, and the last line of that end; a part of it under a write fault, and
@@ -149,10 +149,10 @@ pub record IsReported (call : Call) (spec : List ℕ) : Type 0 where
 -- Output: that of the end that is meant. Of a source that tells nothing it is meant behind some bytes.
 pub record KeepsOutput (call : Call) : Type 0 where
   pub told : (told : List ℕ)
-    → call.source.before ≡ Some told
-    → IsReported call (read_of told)
+      → call.source.before ≡ Some told
+      → IsReported call (read_of told)
   pub silent : call.source.before ≡ None
-    → (spec : List ℕ) × IsReported call spec
+      → (spec : List ℕ) × IsReported call spec
 
 -- Causes: a read fault only where the source's count rose, a write fault only where the sink's did; where the source's
 -- rose the end is a read fault, or what stands for it, and where the sink's rose it is a write fault.

@@ -50,13 +50,7 @@ pub fn meant_by<S: Source>(
 }
 
 /// What the two texts mean: their first refusal, or a run of the expression.
-fn meant_of_texts(
-    alloc: Global,
-    spec: &[u8],
-    text: &[u8],
-    log: bool,
-    names: &mut Names,
-) -> Report
+fn meant_of_texts(alloc: Global, spec: &[u8], text: &[u8], log: bool, names: &mut Names) -> Report
     requires { names.old ≡ built_in_names }
     ensures means { MeansTexts spec.now text.now names.new result.journal result.end }
     ensures status { result.status ≡ status_of result.end }

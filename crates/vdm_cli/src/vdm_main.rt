@@ -30,7 +30,12 @@ pub fn vdm_main<S: Source, K: Sink>(
 {
     match command_of(words) {
         Some(command) => run_command(alloc, command, source, sink),
-        None => written(alloc, Report::without_run(alloc, End::Usage, false), None, sink),
+        None => written(
+            alloc,
+            Report::without_run(alloc, End::Usage, false),
+            None,
+            sink,
+        ),
     }
 }
 

@@ -20,12 +20,7 @@ use vdm_outside::{Failed, Sink, write_whole};
 
 /// Writes the report that a call means, over the names of the texts that ran; none where nothing ran. Gives the report
 /// with the end that is left then. The journal stays, whatever becomes of the writing.
-pub fn written<K: Sink>(
-    alloc: Global,
-    meant: Report,
-    names: Option<&Names>,
-    sink: &mut K,
-) -> Report
+pub fn written<K: Sink>(alloc: Global, meant: Report, names: Option<&Names>, sink: &mut K) -> Report
     requires status { meant.status ≡ status_of meant.end }
     requires line { HasReportLine meant.end }
     requires named { names ≡ None → meant.journal ≡ [] }
