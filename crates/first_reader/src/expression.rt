@@ -5,6 +5,7 @@ ghost use Rattle.vdm_kinds.specs.declared.spec_fault.SpecFault.{SpecFault};
 ghost use Rattle.vdm_grammar.specs.Texts.{HasTree, HasNoTree, expr_limit, syntax_fault};
 ghost use Rattle.vdm_tree.specs.View.{view_of};
 ghost use Rattle.vdm_tree.specs.ClassView.{spec_view};
+ghost use Rattle.first_tokens.specs.Lexed.{KeepsNames};
 ghost use Rattle.vdm_grammar.specs.declared.no_tree.NoTree.{NoTree};
 
 use crate::refusal::syntax_fault;
@@ -22,7 +23,7 @@ const EXPR_LIMIT: usize = 65_536;
 
 /// The tree of an expression's text behind a specification with these names: a sum, grouped to the left, of at most 200
 /// whole literals, or the call of an operation of a new object of one of the classes. Any other text is refused by a
-/// syntax fault where it begins; the names may then be more. Want of memory is told apart.
+/// syntax fault where it begins. Want of memory is told apart. Whatever comes, the names that there were stay in front.
 pub fn read_expression(
     alloc: Global,
     text: &[u8],
@@ -33,6 +34,7 @@ pub fn read_expression(
     ensures tree { IfOk result (λ e. HasTree (spec_view spec.now) names.old text.now names.new (view_of e)) }
     ensures refused { (fault : SpecFault) → result ≡ Err (Halt.Of fault)
         → HasNoTree (spec_view spec.now) names.old text.now × (fault ≡ syntax_fault Part.Expr) }
+    ensures kept { KeepsNames names.old names.new }
 {
     match bound_expression(alloc, text, spec, names) {
         Ok(expression) => Ok(expression),
@@ -51,6 +53,7 @@ fn bound_expression(
     ensures tree { IfOk result (λ e. HasTree (spec_view spec.now) names.old text.now names.new (view_of e)) }
     ensures refused { (fault : NoTree) → result ≡ Err (Halt.Of fault)
         → HasNoTree (spec_view spec.now) names.old text.now }
+    ensures kept { KeepsNames names.old names.new }
 {
     if text.len() > EXPR_LIMIT {
         return Err(NO_TREE);

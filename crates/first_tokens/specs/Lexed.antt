@@ -13,6 +13,11 @@ pub record IsLexed (part : Part) (text : List ℕ) (old new : List (List ℕ)) (
   pub names : new ≡ names_behind old lexemes
   pub tokens : found ≡ tokens_with new lexemes
 
+-- the old names stand in front of the new ones
+pub record KeepsNames (old new : List (List ℕ)) : Type 0 where
+  pub more : List (List ℕ)
+  pub names : new ≡ old ++ more
+
 -- what a text begins with, at its place, alone
 abbrev pub lexeme_at : Place → Front → List Lexeme
 lexeme_at place front = record { kind = front.kind; place = place } ∷ []

@@ -7,7 +7,7 @@ ghost use Rattle.vdm_grammar.specs.Positions.{start_of, after};
 ghost use Rattle.vdm_grammar.specs.Lexemes.{front_of, lexemes_of};
 ghost use Rattle.vdm_grammar.specs.Tokens.{identifier_before, token_kind};
 ghost use Rattle.vdm_grammar.specs.declared.no_tree.NoTree.{NoTree};
-ghost use Rattle.first_tokens.specs.Lexed.{IsLexed, IsPushed};
+ghost use Rattle.first_tokens.specs.Lexed.{IsLexed, IsPushed, KeepsNames};
 ghost use Rattle.first_tokens.specs.Pieces.{kind_view};
 
 use crate::blank::is_blank;
@@ -18,8 +18,8 @@ use vdm_grammar::{NoTree, Token, TokenKind};
 use vdm_kinds::{Halt, Name, OutOfMemory, Part, Place};
 use vdm_names::Names;
 
-/// The tokens of a text, whose identifiers are named in text order. A text with anything else in it is refused; the
-/// names may then be more.
+/// The tokens of a text, whose identifiers are named in text order. A text with anything else in it is refused. The
+/// names that there were stay in front, also where it is refused or memory is wanting.
 pub fn lex(
     alloc: Global,
     part: Part,
@@ -30,6 +30,7 @@ pub fn lex(
     ensures lexed { IfOk result (λ tokens. IsLexed part text.now names.old names.new tokens.items) }
     ensures room { OnOk result (length names.new ≤ length names.old + length text.now) }
     ensures refused { (fault : NoTree) → result ≡ Err (Halt.Of fault) → lexemes_of part text.now ≡ None }
+    ensures kept { KeepsNames names.old names.new }
 {
     let mut tokens = Vec::new(alloc);
     let mut place = start_of(part);
@@ -58,6 +59,7 @@ fn push_token(
     ensures pushed { IfOk result (λ length. IsPushed text.now place names.old names.new tokens.old.items tokens.new.items length) }
     ensures room { OnOk result (length names.new ≤ length names.old + 1) }
     ensures refused { (fault : NoTree) → result ≡ Err (Halt.Of fault) → front_of text.now ≡ None }
+    ensures kept { KeepsNames names.old names.new }
 {
     let Some(front) = front_of(text) else {
         return Err(Halt::Of(NoTree));
@@ -73,6 +75,7 @@ fn token_kind(kind: Kind, piece: &[u8], names: &mut Names) -> Result<TokenKind, 
     requires ascii { IsAscii piece.now }
     ensures kind { IfOk result (λ token. token ≡ token_kind names.new (kind_view piece.now kind)) }
     ensures names { OnOk result (names.new ≡ with_names names.old (identifier_before (kind_view piece.now kind) [])) }
+    ensures kept { KeepsNames names.old names.new }
 {
     Ok(match kind {
         Kind::Identifier => TokenKind::Name(name_of(piece, names)?),
@@ -87,6 +90,7 @@ fn name_of(identifier: &[u8], names: &mut Names) -> Result<Name, OutOfMemory>
     requires ascii { IsAscii identifier.now }
     ensures name { IfOk result (λ name. name.0 ≡ number_in names.new identifier.now) }
     ensures names { OnOk result (names.new ≡ with_name names.old identifier.now) }
+    ensures kept { KeepsNames names.old names.new }
 {
     let Ok(identifier) = str::from_utf8(identifier) else {
         // What is ASCII is UTF-8.

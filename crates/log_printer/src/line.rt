@@ -30,8 +30,13 @@ pub fn log_line(
     Ok(())
 }
 
-// as ``9 main 2 write Counter`n = 1``
-fn push_line(text: &mut String, k: u64, e: &Entry, names: &Names) -> Result<(), OutOfMemory>
+/// Appends the line of an entry to a string, as ``9 main 2 write Counter`n = 1``. A refusal may leave a part of it there.
+pub(crate) fn push_line(
+    text: &mut String,
+    k: u64,
+    e: &Entry,
+    names: &Names,
+) -> Result<(), OutOfMemory>
     requires { HasLogLine e.now }
     ensures { OnOk result (string_bytes text.new ≡ string_bytes text.old ++ log_line names.now k e.now) }
 {

@@ -2,16 +2,17 @@
 
 ghost use Rattle.std.specs.Prelude.{◌≡◌, ◌++◌, true, IfOk, OnOk};
 ghost use Rattle.std.specs.List.{AllByRecursion as Each};
+ghost use Rattle.std.specs.String.{string_bytes};
 ghost use Rattle.report_texts.specs.Log.{HasLogLine, log_lines};
 ghost use Rattle.report_texts.specs.Output.{output};
 
-use crate::line::log_line;
+use crate::line::push_line;
 use run_journal::{Entry, EntryList};
 use std::alloc::Global;
 use vdm_kinds::OutOfMemory;
 use vdm_names::Names;
 
-/// The report: the log where it is asked for, then the last line.
+/// The report: the log where it is asked for, then the last line. Where memory is wanting, what was written of it is gone.
 pub fn report_text(
     alloc: Global,
     journal: &EntryList,
@@ -22,26 +23,22 @@ pub fn report_text(
     requires { log ≡ true → Each HasLogLine journal.now }
     ensures { IfOk result (λ text. text.items ≡ output names.now journal.now log last.now) }
 {
-    let mut out = Vec::new(alloc);
+    let mut text = String::new(alloc);
     if log {
-        append_log(alloc, journal.as_slice(), names, &mut out)?;
+        push_log(&mut text, journal.as_slice(), names)?;
     }
+    let mut out = text.into_bytes();
     out.extend_from_slice(last)?;
     Ok(out)
 }
 
-/// Appends the lines of the entries, numbered from 1.
-fn append_log(
-    alloc: Global,
-    entries: &[Entry],
-    names: &Names,
-    out: &mut Vec<u8>,
-) -> Result<(), OutOfMemory>
+/// Appends the lines of the entries, numbered from 1. A refusal may leave a part of them there.
+fn push_log(text: &mut String, entries: &[Entry], names: &Names) -> Result<(), OutOfMemory>
     requires { Each HasLogLine entries.now }
-    ensures { OnOk result (out.new.items ≡ out.old.items ++ log_lines names.now 1 entries.now) }
+    ensures { OnOk result (string_bytes text.new ≡ string_bytes text.old ++ log_lines names.now 1 entries.now) }
 {
     for (index, entry) in entries.iter().enumerate() {
-        log_line(alloc, index as u64 + 1, entry, names, out)?;
+        push_line(text, index as u64 + 1, entry, names)?;
     }
     Ok(())
 }

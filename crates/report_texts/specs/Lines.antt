@@ -33,19 +33,23 @@ thread_text (Release object k) = codes "r" ++ decimal object ++ codes "." ++ dec
 thread_text Clock = codes "clock"
 
 abbrev pub usage_line : List ℕ
-usage_line = line (codes "usage: vdm check | vdm run EXPR [--lanes N] [--slice N] [--ticks N] [--steps N] [--entries N] [--log] | vdm make N")
+usage_line =
+    line (codes "usage: vdm check | vdm run EXPR [--lanes N] [--slice N] [--ticks N] [--steps N] [--entries N] [--log] | vdm make N")
 
 abbrev pub read_fault_line : List ℕ
 read_fault_line = line (codes "read fault")
 
 -- as `refused: 2 SyntaxFault at expr 1:1`
 abbrev pub refused_line : SpecFault → List ℕ
-refused_line fault = line (codes "refused: " ++ decimal (spec_number fault.kind) ++ codes " " ++ spec_name fault.kind ++ codes " at " ++ place_text fault.place)
+refused_line fault =
+    line (codes "refused: " ++ decimal (spec_number fault.kind) ++ codes " " ++ spec_name fault.kind
+    ++ codes " at " ++ place_text fault.place)
 
 -- as `fault: 101 Overflow in main at expr 1:41`
 abbrev pub failed_line : RunFault → Thread → Place → List ℕ
 failed_line fault thread place =
-    line (codes "fault: " ++ decimal (run_number fault) ++ codes " " ++ run_name fault ++ codes " in " ++ thread_text thread ++ codes " at " ++ place_text place)
+    line (codes "fault: " ++ decimal (run_number fault) ++ codes " " ++ run_name fault
+    ++ codes " in " ++ thread_text thread ++ codes " at " ++ place_text place)
 
 -- as `result: 2`, and `result: ()` without a value
 abbrev pub result_line : Slot → List ℕ

@@ -78,7 +78,8 @@ HasLogLine entry = HasNumbers entry.deed
 -- as ``9 main 2 write Counter`n = 1``: the number of the entry, its thread, its object and its deed
 abbrev pub log_line : List (List ℕ) → ℕ → Entry → List ℕ
 log_line names k entry =
-    line (decimal k ++ codes " " ++ thread_text entry.thread ++ codes " " ++ decimal entry.object ++ codes " " ++ deed_text names entry.deed)
+    line (decimal k ++ codes " " ++ thread_text entry.thread ++ codes " " ++ decimal entry.object
+    ++ codes " " ++ deed_text names entry.deed)
 
 -- the lines of entries, numbered from k on
 abbrev pub log_lines : List (List ℕ) → ℕ → List Entry → List ℕ

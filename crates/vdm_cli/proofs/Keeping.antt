@@ -1,5 +1,5 @@
 -- What the end that is meant, and what was written of it, say of a whole call.
-use Rattle.std.specs.Prelude.{◌≡◌, ℕ, ◌+◌, ◌≤◌, ◌⊎◌, Bool, true, false, List, [], length, take, drop, Some, IsSome}
+use Rattle.std.specs.Prelude.{◌≡◌, ℕ, ◌+◌, ◌≤◌, ◌⊎◌, Bool, List, [], length, take, drop, Some, IsSome}
 use Rattle.std.proofs.Common.{refl, sym, ap, ◌∙◌, subst, arith, inl, inr, length-take, take_all}
 use Rattle.std.proofs.lemmas.List.{drop_all}
 use Rattle.abstract_syntax.specs.Classes.{SpecTree}
@@ -7,18 +7,16 @@ use Rattle.abstract_syntax.specs.Expressions.{ExprTree}
 use Rattle.run_journal.specs.declared.entry.Entry.{Entry}
 use Rattle.vdm_kinds.specs.declared.spec_fault.SpecFault.{SpecFault}
 use Rattle.vdm_grammar.specs.Texts.{IsAccepted, IsFirstRefusal, spec_limit}
-use Rattle.vdm_grammar.proofs.Refusals.{one_accepted, one_refusal, not_both}
-use Rattle.vdm_meaning.specs.Main.{step_limit}
-use Rattle.vdm_meaning.specs.Order.{IsInOrder}
-use Rattle.vdm_meaning.specs.Runs.{IsRun}
+use Rattle.vdm_grammar.proofs.Refusals.{one_refusal, not_both}
 use Rattle.report_texts.specs.Words.{IsRunCommand, IsNoCommand}
+use Rattle.report_texts.proofs.Commands.{one_command}
 use Rattle.vdm_report.specs.declared.end.End.{End}
 use Rattle.vdm_report.specs.declared.end.End.TheVariants.{Ended, Refused, Usage, Failed, ReadFault, WriteFault, OutOfMemory}
 use Rattle.vdm_report.specs.Ends.{finish_in}
-use Rattle.vdm_report.specs.Outside.{Outside, IsFaulty}
-use Rattle.vdm_cli.specs.Meant.{WasRead, Runs, MeansRun, MeansUsage, Means}
+use Rattle.vdm_report.specs.Outside.{Outside, IsCalm, IsFaulty}
 use Rattle.vdm_report.specs.Written.{Wrote}
-use Rattle.vdm_cli.specs.Headline.{StandsFor, RunsText, RunsOfRead, KeepsTexts, KeepsJournal}
+use Rattle.vdm_cli.specs.Meant.{read_of, WasRead, Runs, MeansRun, MeansUsage, Means}
+use Rattle.vdm_cli.specs.Headline.{Call, StandsFor, KeepsStatus, KeepsWords, KeepsReading, RunsText, KeepsTexts, RunsOf, KeepsJournal, KeepsOutput, KeepsCauses, Keeps}
 
 -- what was written stands for what is meant
 pub wrote_stands : (names : List (List ℕ)) (journal : List Entry) (log : Bool) (meant : End) (sink : Outside) (end : End) → Wrote names journal log meant sink end → StandsFor end meant
@@ -30,49 +28,57 @@ wrote_stands names journal log meant sink Usage w = w.1
 wrote_stands names journal log meant sink (Failed fault exit thread place) w = w.1
 wrote_stands names journal log meant sink ReadFault w = w.1
 
--- an end stands for itself
-stands_for_itself : (end : End) → StandsFor end end
-stands_for_itself WriteFault = tt
-stands_for_itself OutOfMemory = tt
-stands_for_itself (Ended slot) = refl
-stands_for_itself (Refused fault) = refl
-stands_for_itself Usage = refl
-stands_for_itself (Failed fault exit thread place) = refl
-stands_for_itself ReadFault = refl
-
 -- words that are no command mean usage
-means_usage : (words : List (List ℕ)) (log : Bool) (source : Outside) (names : List (List ℕ)) (journal : List Entry) (meant : End) → IsNoCommand words → Means words log source names journal meant → (meant ≡ Usage) × MeansUsage words log source journal
-means_usage words log source names journal Usage none m = (refl, m)
-means_usage words log source names journal WriteFault none m = absurd (none m.0 log m.1)
-means_usage words log source names journal OutOfMemory none m = absurd (none m.0 log m.1)
-means_usage words log source names journal (Ended slot) none m = absurd (none m.0 log m.1)
-means_usage words log source names journal (Refused fault) none m = absurd (none m.0 log m.1)
-means_usage words log source names journal (Failed fault exit thread place) none m = absurd (none m.0 log m.1)
-means_usage words log source names journal ReadFault none m = absurd (none m.0 log m.1)
+means_usage : (words : List (List ℕ)) (log : Bool) (source : Outside) (spec : List ℕ) (names : List (List ℕ)) (journal : List Entry) (meant : End) → IsNoCommand words → Means words log source spec names journal meant → (meant ≡ Usage) × MeansUsage words log source journal
+means_usage words log source spec names journal (Ended slot) none m = absurd (none m.0 log m.1)
+means_usage words log source spec names journal (Refused fault) none m = absurd (none m.0 log m.1)
+means_usage words log source spec names journal Usage none m = (refl, m)
+means_usage words log source spec names journal (Failed fault exit thread place) none m = absurd (none m.0 log m.1)
+means_usage words log source spec names journal ReadFault none m = absurd (none m.0 log m.1)
+means_usage words log source spec names journal WriteFault none m = absurd (none m.0 log m.1)
+means_usage words log source spec names journal OutOfMemory none m = absurd (none m.0 log m.1)
 
--- words are at most one command
-same_command : (words : List (List ℕ)) (a b : List ℕ) (m n : Bool) → IsRunCommand words a m → IsRunCommand words b n → (a ≡ b) × (m ≡ n)
-same_command words a b false false p q = (cc, refl)
-same_command words a b false true p q = absurd (cc)
-same_command words a b true false p q = absurd (cc)
-same_command words a b true true p q = (cc, refl)
+-- words that ask for the log, or not, mean a report that does
+means_asks : (words : List (List ℕ)) (log : Bool) (source : Outside) (spec : List ℕ) (names : List (List ℕ)) (journal : List Entry) (meant : End) → (text : List ℕ) (asks : Bool) → IsRunCommand words text asks → Means words log source spec names journal meant → log ≡ asks
+means_asks words log source spec names journal (Ended slot) text asks c m = (one_command words m.0 text log asks m.1 c).1
+means_asks words log source spec names journal (Refused fault) text asks c m = (one_command words m.0 text log asks m.1 c).1
+means_asks words log source spec names journal Usage text asks c m = absurd (m.no_command text asks c)
+means_asks words log source spec names journal (Failed fault exit thread place) text asks c m = (one_command words m.0 text log asks m.1 c).1
+means_asks words log source spec names journal ReadFault text asks c m = (one_command words m.0 text log asks m.1 c).1
+means_asks words log source spec names journal WriteFault text asks c m = (one_command words m.0 text log asks m.1 c).1
+means_asks words log source spec names journal OutOfMemory text asks c m = (one_command words m.0 text log asks m.1 c).1
 
-same_text : (words : List (List ℕ)) (a b : List ℕ) → RunsText words a → RunsText words b → a ≡ b
-same_text words a b p q = (same_command words a b p.0 q.0 p.1 q.1).0
+pub same_text : (words : List (List ℕ)) (a b : List ℕ) → RunsText words a → RunsText words b → a ≡ b
+same_text words a b p q = (one_command words a b p.0 q.0 p.1 q.1).0
 
 -- words that are a command to run mean a run of its text
-means_run : (words : List (List ℕ)) (log : Bool) (source : Outside) (names : List (List ℕ)) (journal : List Entry) (meant : End) (text : List ℕ) → RunsText words text → Means words log source names journal meant → MeansRun source text names journal meant
-means_run words log source names journal Usage text p m = absurd (m.no_command text p.0 p.1)
-means_run words log source names journal WriteFault text p m = subst (λ t. MeansRun source t names journal WriteFault) (same_text words m.0 text (log, m.1) p) m.2
-means_run words log source names journal OutOfMemory text p m = subst (λ t. MeansRun source t names journal OutOfMemory) (same_text words m.0 text (log, m.1) p) m.2
-means_run words log source names journal (Ended slot) text p m = subst (λ t. MeansRun source t names journal (Ended slot)) (same_text words m.0 text (log, m.1) p) m.2
-means_run words log source names journal (Refused fault) text p m = subst (λ t. MeansRun source t names journal (Refused fault)) (same_text words m.0 text (log, m.1) p) m.2
-means_run words log source names journal (Failed fault exit thread place) text p m = subst (λ t. MeansRun source t names journal (Failed fault exit thread place)) (same_text words m.0 text (log, m.1) p) m.2
-means_run words log source names journal ReadFault text p m = subst (λ t. MeansRun source t names journal ReadFault) (same_text words m.0 text (log, m.1) p) m.2
+means_run : (words : List (List ℕ)) (log : Bool) (source : Outside) (spec : List ℕ) (names : List (List ℕ)) (journal : List Entry) (meant : End) (text : List ℕ) → RunsText words text → Means words log source spec names journal meant → MeansRun source spec text names journal meant
+means_run words log source spec names journal (Ended slot) text p m = subst (λ t. MeansRun source spec t names journal (Ended slot)) (same_text words m.0 text (log, m.1) p) m.2
+means_run words log source spec names journal (Refused fault) text p m = subst (λ t. MeansRun source spec t names journal (Refused fault)) (same_text words m.0 text (log, m.1) p) m.2
+means_run words log source spec names journal Usage text p m = absurd (m.no_command text p.0 p.1)
+means_run words log source spec names journal (Failed fault exit thread place) text p m = subst (λ t. MeansRun source spec t names journal (Failed fault exit thread place)) (same_text words m.0 text (log, m.1) p) m.2
+means_run words log source spec names journal ReadFault text p m = subst (λ t. MeansRun source spec t names journal ReadFault) (same_text words m.0 text (log, m.1) p) m.2
+means_run words log source spec names journal WriteFault text p m = subst (λ t. MeansRun source spec t names journal WriteFault) (same_text words m.0 text (log, m.1) p) m.2
+means_run words log source spec names journal OutOfMemory text p m = subst (λ t. MeansRun source spec t names journal OutOfMemory) (same_text words m.0 text (log, m.1) p) m.2
 
--- what was read of bytes that are told is one text
-same_read : (source : Outside) (told a b : List ℕ) → source.before ≡ Some told → WasRead source a → WasRead source b → a ≡ b
-same_read source told a b e p q = (p told e).0 ∙ sym ((q told e).0)
+-- what is meant behind the bytes that were read is meant behind those that were told
+run_told : (source : Outside) (spec text told : List ℕ) (names : List (List ℕ)) (journal : List Entry) (meant : End) → source.before ≡ Some told → MeansRun source spec text names journal meant → MeansRun source (read_of told) text names journal meant
+run_told source spec text told names journal (Ended slot) e m = subst (λ s. MeansRun source s text names journal (Ended slot)) (m.1 told e).0 m
+run_told source spec text told names journal (Refused fault) e m = subst (λ s. MeansRun source s text names journal (Refused fault)) (m.1 told e).0 m
+run_told source spec text told names journal Usage e m = subst (λ s. MeansRun source s text names journal Usage) (m.1 told e).0 m
+run_told source spec text told names journal (Failed fault exit thread place) e m = subst (λ s. MeansRun source s text names journal (Failed fault exit thread place)) (m.1 told e).0 m
+run_told source spec text told names journal ReadFault e m = m
+run_told source spec text told names journal WriteFault e m = subst (λ s. MeansRun source s text names journal WriteFault) (m.1 told e).0 m
+run_told source spec text told names journal OutOfMemory e m = (m.0, elim m.1 [ inl none ↦ inl none | inr r ↦ inr (subst (λ s. WasRead source s × Runs s text names journal) (r.0 told e).0 r) ])
+
+means_told : (words : List (List ℕ)) (log : Bool) (source : Outside) (spec : List ℕ) (names : List (List ℕ)) (journal : List Entry) (meant : End) (told : List ℕ) → source.before ≡ Some told → Means words log source spec names journal meant → Means words log source (read_of told) names journal meant
+means_told words log source spec names journal (Ended slot) told e m = (m.0, m.1, run_told source spec m.0 told names journal (Ended slot) e m.2)
+means_told words log source spec names journal (Refused fault) told e m = (m.0, m.1, run_told source spec m.0 told names journal (Refused fault) e m.2)
+means_told words log source spec names journal Usage told e m = m
+means_told words log source spec names journal (Failed fault exit thread place) told e m = (m.0, m.1, run_told source spec m.0 told names journal (Failed fault exit thread place) e m.2)
+means_told words log source spec names journal ReadFault told e m = (m.0, m.1, run_told source spec m.0 told names journal ReadFault e m.2)
+means_told words log source spec names journal WriteFault told e m = (m.0, m.1, run_told source spec m.0 told names journal WriteFault e m.2)
+means_told words log source spec names journal OutOfMemory told e m = (m.0, m.1, run_told source spec m.0 told names journal OutOfMemory e m.2)
 
 -- a specification is short, so that it was read to its end
 short_is_all : (n : ℕ) (xs : List ℕ) → length xs ≤ n → (take (n + 1) xs ≡ xs) × (drop (n + 1) xs ≡ [])
@@ -81,26 +87,29 @@ short_is_all n xs h = (take_all (n + 1) xs (omega arith), drop_all (n + 1) xs (o
 short_front : (n : ℕ) (xs : List ℕ) → length (take (n + 1) xs) ≤ n → length xs ≤ n
 short_front n xs h = let e = length-take (n + 1) xs in omega arith
 
-read_to_end : (source : Outside) (spec told : List ℕ) → source.before ≡ Some told → WasRead source spec → length spec ≤ spec_limit → (source.after ≡ Some []) × (spec ≡ told)
+pub read_to_end : (source : Outside) (spec told : List ℕ) → source.before ≡ Some told → WasRead source spec → length spec ≤ spec_limit → (source.after ≡ Some []) × (spec ≡ told)
 read_to_end source spec told e r s =
     let first = r told e in
     let short : length (take (spec_limit + 1) told) ≤ spec_limit = subst (λ l. length l ≤ spec_limit) first.0 s in
     let all = short_is_all spec_limit told (short_front spec_limit told short) in
     (first.1 ∙ ap Some all.1, first.0 ∙ all.0)
 
--- which ends are those of a run
-ran : (source : Outside) (text : List ℕ) (names : List (List ℕ)) (journal : List Entry) (meant : End) → IsSome (finish_in meant) → MeansRun source text names journal meant → (spec : List ℕ) × (WasRead source spec × Runs spec text names journal)
-ran source text names journal (Ended slot) f m = (m.1.0, (m.1.1, m.1.2.0))
-ran source text names journal (Failed fault exit thread place) f m = (m.1.0, (m.1.1, m.1.2.0))
-ran source text names journal WriteFault f m = cc f
-ran source text names journal OutOfMemory f m = cc f
-ran source text names journal (Refused fault) f m = cc f
-ran source text names journal Usage f m = cc f
-ran source text names journal ReadFault f m = cc f
-
 -- a specification that is told was read whole
 read_whole : (source : Outside) (spec told : List ℕ) → source.before ≡ Some told → WasRead source spec → length told ≤ spec_limit → spec ≡ told
 read_whole source spec told e r s = (r told e).0 ∙ (short_is_all spec_limit told s).0
+
+pub read_of-short : (told : List ℕ) → length told ≤ spec_limit → read_of told ≡ told
+read_of-short told s = (short_is_all spec_limit told s).0
+
+-- which ends are those of a run
+ran : (source : Outside) (spec text : List ℕ) (names : List (List ℕ)) (journal : List Entry) (meant : End) → IsSome (finish_in meant) → MeansRun source spec text names journal meant → WasRead source spec × Runs spec text names journal
+ran source spec text names journal (Ended slot) f m = (m.1, m.2.0)
+ran source spec text names journal (Refused fault) f m = cc f
+ran source spec text names journal Usage f m = cc f
+ran source spec text names journal (Failed fault exit thread place) f m = (m.1, m.2.0)
+ran source spec text names journal ReadFault f m = cc f
+ran source spec text names journal WriteFault f m = cc f
+ran source spec text names journal OutOfMemory f m = cc f
 
 -- an end that want of memory means may stand for any
 stands_again : (end other : End) → StandsFor end OutOfMemory → StandsFor end other
@@ -113,7 +122,7 @@ stands_again (Failed fault exit thread place) other s = cc s
 stands_again ReadFault other s = cc s
 
 -- an end of a run is the one that is meant
-finished_is : (end meant : End) → IsSome (finish_in end) → StandsFor end meant → end ≡ meant
+pub finished_is : (end meant : End) → IsSome (finish_in end) → StandsFor end meant → end ≡ meant
 finished_is (Ended slot) meant f s = s
 finished_is (Failed fault exit thread place) meant f s = s
 finished_is WriteFault meant f s = cc f
@@ -143,134 +152,149 @@ stands_for_memory (Failed fault exit thread place) s = cc s
 stands_for_memory ReadFault s = cc s
 
 -- the text of a run's end
-finished_text : (words : List (List ℕ)) (log : Bool) (source : Outside) (names : List (List ℕ)) (journal : List Entry) (meant : End) → IsSome (finish_in meant) → Means words log source names journal meant → (text : List ℕ) × (RunsText words text × MeansRun source text names journal meant)
-finished_text words log source names journal (Ended slot) f m = (m.0, ((log, m.1), m.2))
-finished_text words log source names journal (Failed fault exit thread place) f m = (m.0, ((log, m.1), m.2))
-finished_text words log source names journal WriteFault f m = cc f
-finished_text words log source names journal OutOfMemory f m = cc f
-finished_text words log source names journal (Refused fault) f m = cc f
-finished_text words log source names journal Usage f m = cc f
-finished_text words log source names journal ReadFault f m = cc f
+pub finished_text : (words : List (List ℕ)) (log : Bool) (source : Outside) (spec : List ℕ) (names : List (List ℕ)) (journal : List Entry) (meant : End) → IsSome (finish_in meant) → Means words log source spec names journal meant → (text : List ℕ) × (RunsText words text × MeansRun source spec text names journal meant)
+finished_text words log source spec names journal (Ended slot) f m = (m.0, ((log, m.1), m.2))
+finished_text words log source spec names journal (Refused fault) f m = cc f
+finished_text words log source spec names journal Usage f m = cc f
+finished_text words log source spec names journal (Failed fault exit thread place) f m = (m.0, ((log, m.1), m.2))
+finished_text words log source spec names journal ReadFault f m = cc f
+finished_text words log source spec names journal WriteFault f m = cc f
+finished_text words log source spec names journal OutOfMemory f m = cc f
 
 -- where the texts have a refusal, it or want of memory is meant
-refusal_meant : (source : Outside) (text spec told : List ℕ) (names : List (List ℕ)) (journal : List Entry) (fault : SpecFault) (meant : End) → (IsFaulty source → ⊥) → source.before ≡ Some told → WasRead source spec → IsFirstRefusal spec text fault → MeansRun source text names journal meant → (meant ≡ Refused fault) ⊎ (meant ≡ OutOfMemory)
-refusal_meant source text spec told names journal fault (Ended slot) calm e r f m =
-    let same = same_read source told m.1.0 spec e m.1.1 r in
-    let runs = subst (λ s. Runs s text names journal) same m.1.2.0 in
-    absurd (not_both spec text fault names runs.tree runs.expression f runs.accepted)
-refusal_meant source text spec told names journal fault (Failed g exit thread place) calm e r f m =
-    let same = same_read source told m.1.0 spec e m.1.1 r in
-    let runs = subst (λ s. Runs s text names journal) same m.1.2.0 in
-    absurd (not_both spec text fault names runs.tree runs.expression f runs.accepted)
-refusal_meant source text spec told names journal fault (Refused g) calm e r f m =
-    let same = same_read source told m.1.0 spec e m.1.1 r in
-    inl (ap Refused (one_refusal spec text g fault (subst (λ s. IsFirstRefusal s text g) same m.1.2.0) f))
-refusal_meant source text spec told names journal fault OutOfMemory calm e r f m = inr refl
-refusal_meant source text spec told names journal fault ReadFault calm e r f m = absurd (calm m.0)
-refusal_meant source text spec told names journal fault WriteFault calm e r f m = absurd m.1.2
-refusal_meant source text spec told names journal fault Usage calm e r f m = absurd m.1.2
+refusal_meant : (source : Outside) (spec text : List ℕ) (names : List (List ℕ)) (journal : List Entry) (fault : SpecFault) (meant : End) → (IsFaulty source → ⊥) → IsFirstRefusal spec text fault → MeansRun source spec text names journal meant → (meant ≡ Refused fault) ⊎ (meant ≡ OutOfMemory)
+refusal_meant source spec text names journal fault (Ended slot) calm f m = let runs = m.2.0 in absurd (not_both spec text fault names runs.tree runs.expression f runs.accepted)
+refusal_meant source spec text names journal fault (Refused g) calm f m = inl (ap Refused (one_refusal spec text g fault m.2.0 f))
+refusal_meant source spec text names journal fault Usage calm f m = absurd m.2
+refusal_meant source spec text names journal fault (Failed g exit thread place) calm f m = let runs = m.2.0 in absurd (not_both spec text fault names runs.tree runs.expression f runs.accepted)
+refusal_meant source spec text names journal fault ReadFault calm f m = absurd (calm m.0)
+refusal_meant source spec text names journal fault WriteFault calm f m = absurd m.2
+refusal_meant source spec text names journal fault OutOfMemory calm f m = inr refl
 
 -- where both texts are accepted, an end of a run or want of memory is meant
-run_meant : (source : Outside) (text told : List ℕ) (all names : List (List ℕ)) (journal : List Entry) (tree : SpecTree) (expression : ExprTree) (meant : End) → (IsFaulty source → ⊥) → source.before ≡ Some told → IsAccepted told text all tree expression → MeansRun source text names journal meant → IsSome (finish_in meant) ⊎ (meant ≡ OutOfMemory)
-run_meant source text told all names journal tree expression (Ended slot) calm e h m = inl refl
-run_meant source text told all names journal tree expression (Failed g exit thread place) calm e h m = inl refl
-run_meant source text told all names journal tree expression (Refused g) calm e h m =
-    let same = read_whole source m.1.0 told e m.1.1 h.specification.short in
-    absurd (not_both told text g all tree expression (subst (λ x. IsFirstRefusal x text g) same m.1.2.0) h)
-run_meant source text told all names journal tree expression OutOfMemory calm e h m = inr refl
-run_meant source text told all names journal tree expression ReadFault calm e h m = absurd (calm m.0)
-run_meant source text told all names journal tree expression WriteFault calm e h m = absurd m.1.2
-run_meant source text told all names journal tree expression Usage calm e h m = absurd m.1.2
+run_meant : (source : Outside) (spec text told : List ℕ) (all names : List (List ℕ)) (journal : List Entry) (tree : SpecTree) (expression : ExprTree) (meant : End) → (IsFaulty source → ⊥) → source.before ≡ Some told → IsAccepted told text all tree expression → MeansRun source spec text names journal meant → IsSome (finish_in meant) ⊎ (meant ≡ OutOfMemory)
+run_meant source spec text told all names journal tree expression (Ended slot) calm e h m = inl refl
+run_meant source spec text told all names journal tree expression (Refused g) calm e h m =
+    let same = read_whole source spec told e m.1 h.specification.short in
+    absurd (not_both told text g all tree expression (subst (λ x. IsFirstRefusal x text g) same m.2.0) h)
+run_meant source spec text told all names journal tree expression Usage calm e h m = absurd m.2
+run_meant source spec text told all names journal tree expression (Failed g exit thread place) calm e h m = inl refl
+run_meant source spec text told all names journal tree expression ReadFault calm e h m = absurd (calm m.0)
+run_meant source spec text told all names journal tree expression WriteFault calm e h m = absurd m.2
+run_meant source spec text told all names journal tree expression OutOfMemory calm e h m = inr refl
 
-pub keeps_texts : (words : List (List ℕ)) (log : Bool) (source : Outside) (names : List (List ℕ)) (journal : List Entry) (sink : Outside) (meant end : End) → Means words log source names journal meant → Wrote names journal log meant sink end → KeepsTexts words source end
-keeps_texts words log source names journal sink meant end m w =
-    let stands = wrote_stands names journal log meant sink end w in
-    record {
-      refused = λ fault e.
-          let r : Refused fault ≡ meant = subst (λ x. StandsFor x meant) e stands in
-          let n = subst (Means words log source names journal) (sym r) m in
-          (n.0, n.2.1.0, (log, n.1), n.2.1.1, n.2.1.2.0);
-      refuses = λ text spec told fault p calm e r f.
-          elim (refusal_meant source text spec told names journal fault meant calm e r f (means_run words log source names journal meant text p m)) [
-            | inl is ↦ subst (StandsFor end) is stands
-            | inr is ↦ stands_again end (Refused fault) (subst (StandsFor end) is stands)
-          ];
-      finished = λ f told e.
-          let is = finished_is end meant f stands in
-          let g = subst (λ x. IsSome (finish_in x)) is f in
-          let t = finished_text words log source names journal meant g m in
-          let runs = ran source t.0 names journal meant g t.1.1 in
-          let all = read_to_end source runs.0 told e runs.1.0 runs.1.1.accepted.specification.short in
-          (all.0, (t.0, names, runs.1.1.tree, runs.1.1.expression, t.1.0, subst (λ s. IsAccepted s t.0 names runs.1.1.tree runs.1.1.expression) all.1 runs.1.1.accepted));
-      finishes = λ text told all tree expression p calm e h.
-          elim (run_meant source text told all names journal tree expression meant calm e h (means_run words log source names journal meant text p m)) [
-            | inl f ↦ stands_for_finish end meant f stands
-            | inr is ↦ stands_for_memory end (subst (StandsFor end) is stands)
-          ];
-    }
+-- a source failed where a read fault is meant, and nowhere else
+source_cause : (words : List (List ℕ)) (log : Bool) (source : Outside) (spec : List ℕ) (names : List (List ℕ)) (journal : List Entry) (meant : End) (end : End) → Means words log source spec names journal meant → StandsFor end meant → IsCalm source ⊎ (IsFaulty source × StandsFor end ReadFault)
+source_cause words log source spec names journal (Ended slot) end m s = inl m.2.0
+source_cause words log source spec names journal (Refused fault) end m s = inl m.2.0
+source_cause words log source spec names journal Usage end m s = inl m.calm
+source_cause words log source spec names journal (Failed fault exit thread place) end m s = inl m.2.0
+source_cause words log source spec names journal ReadFault end m s = inr (m.2.0, s)
+source_cause words log source spec names journal WriteFault end m s = inl m.2.0
+source_cause words log source spec names journal OutOfMemory end m s = inl m.2.0
 
--- the empty journal is a run of anything
-none_is_run : (journal : List Entry) (tree : SpecTree) (expression : ExprTree) → journal ≡ [] → IsRun tree expression step_limit journal × IsInOrder tree journal
-none_is_run journal tree expression e = (subst (IsRun tree expression step_limit) (sym e) tt, subst (IsInOrder tree) (sym e) tt)
+-- a sink failed where the end is a write fault, and nowhere else
+sink_cause : (names : List (List ℕ)) (journal : List Entry) (log : Bool) (meant : End) (sink : Outside) (end : End) → Wrote names journal log meant sink end → IsCalm sink ⊎ (IsFaulty sink × (end ≡ WriteFault))
+sink_cause names journal log meant sink (Ended slot) w = inl w.0
+sink_cause names journal log meant sink (Refused fault) w = inl w.0
+sink_cause names journal log meant sink Usage w = inl w.0
+sink_cause names journal log meant sink (Failed fault exit thread place) w = inl w.0
+sink_cause names journal log meant sink ReadFault w = inl w.0
+sink_cause names journal log meant sink WriteFault w = inr (w.0, refl)
+sink_cause names journal log meant sink OutOfMemory w = inl w.0
 
--- a journal of what is meant: none, or a run of the texts that were read
-no_entries : (words : List (List ℕ)) (log : Bool) (source : Outside) (names : List (List ℕ)) (journal : List Entry) (meant : End) → Means words log source names journal meant → (journal ≡ []) ⊎ RunsOfRead words source journal
-no_entries words log source names journal Usage m = inl m.empty
-no_entries words log source names journal WriteFault m = absurd m.2.1.2
-no_entries words log source names journal OutOfMemory m = elim m.2.1 [ inl none ↦ inl none | inr r ↦ inr (record { text = m.0; spec = r.0; names = names; command = (log, m.1); read = r.1; runs = r.2 }) ]
-no_entries words log source names journal (Ended slot) m = inr (record { text = m.0; spec = m.2.1.0; names = names; command = (log, m.1); read = m.2.1.1; runs = m.2.1.2.0 })
-no_entries words log source names journal (Refused fault) m = inl m.2.1.2.1
-no_entries words log source names journal (Failed fault exit thread place) m = inr (record { text = m.0; spec = m.2.1.0; names = names; command = (log, m.1); read = m.2.1.1; runs = m.2.1.2.0 })
-no_entries words log source names journal ReadFault m = inl m.2.1
+-- a journal of what is meant: none, or a run behind the bytes that were read
+entries_of : (call : Call) (spec : List ℕ) (names : List (List ℕ)) (meant : End) → Means call.words call.report.log call.source spec names call.report.journal meant → (call.report.journal ≡ []) ⊎ (WasRead call.source spec × RunsOf call spec)
+entries_of call spec names (Ended slot) m = inr (m.2.1, record { text = m.0; names = names; command = (call.report.log, m.1); runs = m.2.2.0 })
+entries_of call spec names (Refused fault) m = inl m.2.2.1
+entries_of call spec names Usage m = inl m.empty
+entries_of call spec names (Failed fault exit thread place) m = inr (m.2.1, record { text = m.0; names = names; command = (call.report.log, m.1); runs = m.2.2.0 })
+entries_of call spec names ReadFault m = inl m.2.1
+entries_of call spec names WriteFault m = absurd m.2.2
+entries_of call spec names OutOfMemory m = elim m.2.1 [ inl none ↦ inl none | inr r ↦ inr (r.0, record { text = m.0; names = names; command = (call.report.log, m.1); runs = r.1 }) ]
 
--- the texts that were read are those of the words and of the bytes that were told
-accepted_told : (words : List (List ℕ)) (source : Outside) (journal : List Entry) (text told : List ℕ) (r : RunsOfRead words source journal) → RunsText words text → source.before ≡ Some told → IsAccepted told text r.names r.runs.tree r.runs.expression
-accepted_told words source journal text told r p e =
-    subst (λ t. IsAccepted told t r.names r.runs.tree r.runs.expression) (same_text words r.text text r.command p)
-    (subst (λ s. IsAccepted s r.text r.names r.runs.tree r.runs.expression) (read_to_end source r.spec told e r.read r.runs.accepted.specification.short).1 r.runs.accepted)
+-- all clauses, from what is meant behind some bytes that were read, and what was written of it
+module _ (call : Call) (spec : List ℕ) (names : List (List ℕ)) (meant : End)
+    (m : Means call.words call.report.log call.source spec names call.report.journal meant)
+    (w : Wrote names call.report.journal call.report.log meant call.sink call.report.end) where
+  stands : StandsFor call.report.end meant
+  stands = wrote_stands names call.report.journal call.report.log meant call.sink call.report.end w
 
--- so the run is one of their trees
-run_told : (words : List (List ℕ)) (source : Outside) (journal : List Entry) (text told : List ℕ) (names : List (List ℕ)) (tree : SpecTree) (expression : ExprTree) (r : RunsOfRead words source journal) → RunsText words text → source.before ≡ Some told → IsAccepted told text names tree expression → IsRun tree expression step_limit journal × IsInOrder tree journal
-run_told words source journal text told names tree expression r p e h =
-    let same = one_accepted told text r.names names r.runs.tree tree r.runs.expression expression (accepted_told words source journal text told r p e) h in (
-      subst (λ x. IsRun tree x step_limit journal) same.2 (subst (λ t. IsRun t r.runs.expression step_limit journal) same.1 r.runs.run),
-      subst (λ t. IsInOrder t journal) same.1 r.runs.order,
-    )
+  -- an end that stands for itself alone is meant
+  is_meant : (end : End) → call.report.end ≡ end → StandsFor end meant
+  is_meant end e = subst (λ x. StandsFor x meant) e stands
 
-journal_is_kept : (words : List (List ℕ)) (log : Bool) (source : Outside) (names : List (List ℕ)) (journal : List Entry) (sink : Outside) (meant end : End) → Means words log source names journal meant → Wrote names journal log meant sink end → KeepsJournal words source journal end
-journal_is_kept words log source names journal sink meant end m w =
-    let stands = wrote_stands names journal log meant sink end w in
-    let entries = no_entries words log source names journal meant m in
-    record {
-      some_run = entries;
-      run = λ text told all tree expression p e h.
-          elim entries [
-            | inl none ↦ none_is_run journal tree expression none
-            | inr r ↦ run_told words source journal text told all tree expression r p e h
-          ];
-      no_command = λ none. (means_usage words log source names journal meant none m).1.empty;
-      no_trees = λ text told fault p e f.
-          elim entries [
-            | inl empty ↦ empty
-            | inr r ↦ absurd (not_both told text fault r.names r.runs.tree r.runs.expression f (accepted_told words source journal text told r p e))
-          ];
-      unread = λ told e more.
-          elim entries [
-            | inl empty ↦ empty
-            | inr r ↦ absurd (more (read_to_end source r.spec told e r.read r.runs.accepted.specification.short).0)
-          ];
-      usage = λ e.
-          let r : Usage ≡ meant = subst (λ x. StandsFor x meant) e stands in
-          (subst (Means words log source names journal) (sym r) m).empty;
-      refused = λ fault e.
-          let r : Refused fault ≡ meant = subst (λ x. StandsFor x meant) e stands in
-          (subst (Means words log source names journal) (sym r) m).2.1.2.1;
-      read_fault = λ e.
-          let r : ReadFault ≡ meant = subst (λ x. StandsFor x meant) e stands in
-          (subst (Means words log source names journal) (sym r) m).2.1;
-    }
+  means_end : (end : End) → end ≡ meant → Means call.words call.report.log call.source spec names call.report.journal end
+  means_end end e = subst (Means call.words call.report.log call.source spec names call.report.journal) (sym e) m
 
--- the same of the journal that is given back, which is the one that is meant
-pub keeps_journal : (words : List (List ℕ)) (log : Bool) (source : Outside) (names : List (List ℕ)) (journal given : List Entry) (sink : Outside) (meant end : End) → given ≡ journal → Means words log source names journal meant → Wrote names journal log meant sink end → KeepsJournal words source given end
-keeps_journal words log source names journal given sink meant end same m w =
-    subst (λ j. KeepsJournal words source j end) (sym same) (journal_is_kept words log source names journal sink meant end m w)
+  keeps_words : (IsNoCommand call.words → call.reads_after ≡ call.reads_before) → KeepsWords call
+  keeps_words unread = record {
+    usage = λ e. (means_end Usage (is_meant Usage e)).no_command;
+    no_command = λ none.
+        let u = means_usage call.words call.report.log call.source spec names call.report.journal meant none m in
+        record { stands = subst (StandsFor call.report.end) u.0 stands; untouched = u.1.untouched; unread = unread none; calm = u.1.calm; no_log = u.1.no_log };
+    asked = λ text asks c. means_asks call.words call.report.log call.source spec names call.report.journal meant text asks c m;
+  }
+
+  keeps_texts : KeepsTexts call
+  keeps_texts = record {
+    refused = λ told fault e is.
+        let n = means_end (Refused fault) (is_meant (Refused fault) is) in
+        let first = n.2.1 told e in
+        (first.1, (n.0, (call.report.log, n.1), subst (λ s. IsFirstRefusal s n.0 fault) first.0 n.2.2.0));
+    refuses = λ told text fault e p calm f.
+        let run = run_told call.source spec text told names call.report.journal meant e (means_run call.words call.report.log call.source spec names call.report.journal meant text p m) in
+        elim (refusal_meant call.source (read_of told) text names call.report.journal fault meant calm f run) [
+          | inl is ↦ subst (StandsFor call.report.end) is stands
+          | inr is ↦ stands_again call.report.end (Refused fault) (subst (StandsFor call.report.end) is stands)
+        ];
+    finished = λ told e f.
+        let is = finished_is call.report.end meant f stands in
+        let g = subst (λ x. IsSome (finish_in x)) is f in
+        let t = finished_text call.words call.report.log call.source spec names call.report.journal meant g m in
+        let runs = ran call.source spec t.0 names call.report.journal meant g t.1.1 in
+        let all = read_to_end call.source spec told e runs.0 runs.1.accepted.specification.short in
+        (all.0, (t.0, names, runs.1.tree, runs.1.expression, t.1.0, subst (λ s. IsAccepted s t.0 names runs.1.tree runs.1.expression) all.1 runs.1.accepted));
+    finishes = λ told text all tree expression e p calm h.
+        elim (run_meant call.source spec text told all names call.report.journal tree expression meant calm e h (means_run call.words call.report.log call.source spec names call.report.journal meant text p m)) [
+          | inl f ↦ stands_for_finish call.report.end meant f stands
+          | inr is ↦ stands_for_memory call.report.end (subst (StandsFor call.report.end) is stands)
+        ];
+  }
+
+  keeps_journal : KeepsJournal call
+  keeps_journal =
+      let entries = entries_of call spec names meant m in
+      record {
+        told = λ told e.
+            elim entries [
+              | inl none ↦ inl none
+              | inr r ↦ let all = read_to_end call.source spec told e r.0 r.1.runs.accepted.specification.short in inr (all.0, subst (RunsOf call) all.1 r.1)
+            ];
+        silent = λ e. elim entries [ inl none ↦ inl none | inr r ↦ inr (spec, r.1) ];
+      }
+
+  keeps_output : KeepsOutput call
+  keeps_output = record {
+    told = λ told e. record { names = names; meant = meant; means = means_told call.words call.report.log call.source spec names call.report.journal meant told e m; wrote = w };
+    silent = λ e. (spec, record { names = names; meant = meant; means = m; wrote = w });
+  }
+
+  keeps_causes : KeepsCauses call
+  keeps_causes = record {
+    read_fault = λ e. (means_end ReadFault (is_meant ReadFault e)).2.0;
+    write_fault = λ e. (subst (Wrote names call.report.journal call.report.log meant call.sink) e w).0;
+    of_source = source_cause call.words call.report.log call.source spec names call.report.journal meant call.report.end m stands;
+    of_sink = sink_cause names call.report.journal call.report.log meant call.sink call.report.end w;
+  }
+
+  pub keeps : KeepsStatus call → KeepsReading call → (IsNoCommand call.words → call.reads_after ≡ call.reads_before) → Keeps call
+  keeps status reading unread = record {
+    status = status;
+    words = keeps_words unread;
+    reading = reading;
+    texts = keeps_texts;
+    journal = keeps_journal;
+    output = keeps_output;
+    causes = keeps_causes;
+  }

@@ -1,2 +1,4 @@
-pub mod Keeping
 pub mod RunTexts
+pub mod Keeping
+pub mod Following
+pub mod Whole

@@ -1,5 +1,5 @@
 -- What the run of accepted texts says of them, and that what is printed of it has a text.
-use Rattle.std.specs.Prelude.{◌≡◌, ℕ, Bool, ◌≤◌, List, [], ◌∷◌, length, map, Option, Some, None}
+use Rattle.std.specs.Prelude.{◌≡◌, ℕ, ◌≤◌, List, [], ◌∷◌, length, map, Option, Some, None, Result, Err}
 use Rattle.std.specs.List.{AllByRecursion as Each}
 use Rattle.std.proofs.Common.{sym, subst, arith, inl, inr}
 use Rattle.abstract_syntax.specs.Classes.{SpecTree}
@@ -12,7 +12,11 @@ use Rattle.run_journal.specs.declared.thread.Thread.TheVariants.{Main}
 use Rattle.run_journal.specs.Numbers.{IsNumberSlot, HasNumbers}
 use Rattle.vdm_values.specs.declared.slot.Slot.{Slot}
 use Rattle.vdm_grammar.specs.Grammar.{AreClasses, IsExpression}
-use Rattle.vdm_grammar.specs.Texts.{IsAccepted}
+use Rattle.vdm_kinds.specs.declared.halt.Halt.{Halt}
+use Rattle.vdm_kinds.specs.declared.halt.Halt.TheVariants.{Of}
+use Rattle.vdm_kinds.specs.declared.part.Part.TheVariants.{Expr}
+use Rattle.vdm_kinds.specs.declared.spec_fault.SpecFault.{SpecFault}
+use Rattle.vdm_grammar.specs.Texts.{IsSpecification, HasNoTree, IsAccepted, IsFirstRefusal, syntax_fault}
 use Rattle.vdm_meaning.specs.Main.{GivesNoObject, step_limit}
 use Rattle.vdm_meaning.specs.Order.{IsInOrder}
 use Rattle.vdm_meaning.specs.Runs.{IsRun, Finish, ended, failed, decided, first_of, finish_of}
@@ -21,9 +25,8 @@ use Rattle.vdm_tree.specs.ClassView.{class_view}
 use Rattle.report_texts.specs.Log.{HasLogLine}
 use Rattle.vdm_report.specs.declared.end.End.{End}
 use Rattle.vdm_report.specs.declared.end.End.TheVariants.{Ended, Refused, Usage, Failed, ReadFault, WriteFault, OutOfMemory}
-use Rattle.report_texts.specs.Words.{IsRunCommand}
 use Rattle.vdm_report.specs.Outside.{Outside, IsCalm}
-use Rattle.vdm_cli.specs.Meant.{WasRead, MeansTexts, Means}
+use Rattle.vdm_cli.specs.Meant.{WasRead, MeansTexts, MeansRun}
 use Rattle.vdm_report.specs.Ends.{HasReportLine}
 use Rattle.vdm_cli.specs.RunEnds.{RunsTo, EndsRun}
 
@@ -69,22 +72,21 @@ finish-holds (entry ∷ entries) h = first-holds (decided entry.thread entry.dee
 pub ended-number : (entries : List Entry) (slot : Slot) → Each HasLogLine entries → finish_of entries ≡ Some (ended slot) → IsNumberSlot slot
 ended-number entries slot h e = subst HoldsNumber e (finish-holds entries h)
 
--- what the two texts mean is what the words mean that run them, where no read failed
-pub means_command : (words : List (List ℕ)) (log : Bool) (source : Outside) (spec text : List ℕ) (names : List (List ℕ)) (journal : List Entry) (end : End) → IsRunCommand words text log → IsCalm source → WasRead source spec → MeansTexts spec text names journal end → Means words log source names journal end
-means_command words log source spec text names journal (Ended slot) command calm read m = (text, command, (calm, (spec, read, m)))
-means_command words log source spec text names journal (Failed fault exit thread place) command calm read m = (text, command, (calm, (spec, read, m)))
-means_command words log source spec text names journal (Refused fault) command calm read m = (text, command, (calm, (spec, read, m)))
-means_command words log source spec text names journal OutOfMemory command calm read m = (text, command, (calm, elim m [ inl none ↦ inl none | inr runs ↦ inr (spec, read, runs) ]))
-means_command words log source spec text names journal Usage command calm read m = absurd m
-means_command words log source spec text names journal ReadFault command calm read m = absurd m
-means_command words log source spec text names journal WriteFault command calm read m = absurd m
+-- what the two texts mean is what the command means that runs them, where no read failed
+means_run : (source : Outside) (spec text : List ℕ) (names : List (List ℕ)) (journal : List Entry) (end : End) → IsCalm source → WasRead source spec → MeansTexts spec text names journal end → MeansRun source spec text names journal end
+means_run source spec text names journal (Ended slot) calm read m = (calm, read, m)
+means_run source spec text names journal (Failed fault exit thread place) calm read m = (calm, read, m)
+means_run source spec text names journal (Refused fault) calm read m = (calm, read, m)
+means_run source spec text names journal OutOfMemory calm read m = (calm, elim m [ inl none ↦ inl none | inr runs ↦ inr (read, runs) ])
+means_run source spec text names journal Usage calm read m = absurd m
+means_run source spec text names journal ReadFault calm read m = absurd m
+means_run source spec text names journal WriteFault calm read m = absurd m
 
--- the same where the texts and the wish for the log came through calls
-pub means_read : (words : List (List ℕ)) (log asked : Bool) (source : Outside) (given spec given_text text : List ℕ) (names : List (List ℕ)) (journal : List Entry) (end : End) → given ≡ spec → given_text ≡ text → log ≡ asked → IsRunCommand words text asked → IsCalm source → WasRead source spec → MeansTexts given given_text names journal end → Means words log source names journal end
-means_read words log asked source given spec given_text text names journal end same same_text same_log command calm read m =
-    subst (λ l. Means words l source names journal end) (sym same_log)
-    (means_command words asked source spec text names journal end command calm read
-    (subst (λ t. MeansTexts spec t names journal end) same_text (subst (λ s. MeansTexts s given_text names journal end) same m)))
+-- the same where the texts came through calls
+pub means_read : (source : Outside) (given spec given_text text : List ℕ) (names : List (List ℕ)) (journal : List Entry) (end : End) → given ≡ spec → given_text ≡ text → IsCalm source → WasRead source spec → MeansTexts given given_text names journal end → MeansRun source spec text names journal end
+means_read source given spec given_text text names journal end same same_text calm read m =
+    means_run source spec text names journal end calm read
+    (subst (λ t. MeansTexts spec t names journal end) same_text (subst (λ s. MeansTexts s given_text names journal end) same m))
 
 -- what may be run is no new object alone
 pub expression-no_object : (tree : ExprTree) → IsExpression tree → GivesNoObject tree
@@ -104,3 +106,11 @@ runs_to_end spec tree journal end given is run order lines ends line =
 pub runs_to_memory : (spec : SpecTree) (tree : ExprTree) (journal : List Entry) (end : End) → end ≡ OutOfMemory → IsRun spec tree step_limit journal → IsInOrder spec journal → Each HasLogLine journal → RunsTo spec tree journal end
 runs_to_memory spec tree journal end is run order lines =
     subst (RunsTo spec tree journal) (sym is) (record { run = run; order = order; ends = tt; lines = lines; line = tt })
+
+-- what a call refuses is handed on as it was
+pub handed_on : {T U : Type 0} (result : Result U (Halt SpecFault)) (inner outer : Halt SpecFault) (fault : SpecFault) → result ≡ Err (Of fault) → result ≡ Err outer → outer ≡ inner → (other : Result T (Halt SpecFault)) → other ≡ Err inner → other ≡ Err (Of fault)
+handed_on result inner outer fault given is same other e = cc
+
+-- the specification is accepted, and the expression has no tree behind it
+pub refuses_expression : (spec text : List ℕ) (names : List (List ℕ)) (tree : SpecTree) (fault : SpecFault) → IsSpecification spec names tree → HasNoTree tree names text × (fault ≡ syntax_fault Expr) → IsFirstRefusal spec text fault
+refuses_expression spec text names tree fault accepted refused = inr (record { names = names; tree = tree; accepted = accepted; refused = refused.0 }, refused.1)

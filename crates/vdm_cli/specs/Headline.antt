@@ -1,21 +1,40 @@
--- What a whole call of the program keeps, clause by clause.
-use Rattle.std.specs.Prelude.{◌≡◌, ◌≢◌, ℕ, ◌+◌, ◌≤◌, ◌⊎◌, Bool, false, List, [], Option, Some, IsSome}
+-- What a whole call of the program keeps, clause by clause. Where a clause begins with the bytes that the source told, it
+-- says nothing of a source that tells nothing, as the system's; what stands of that one the clauses `silent` say.
+use Rattle.std.specs.Prelude.{◌≡◌, ℕ, ◌+◌, ◌≤◌, ◌⊎◌, Bool, false, List, [], ◌++◌, length, Option, Some, None, IsSome}
 use Rattle.abstract_syntax.specs.Classes.{SpecTree}
 use Rattle.abstract_syntax.specs.Expressions.{ExprTree}
-use Rattle.run_journal.specs.declared.entry.Entry.{Entry}
 use Rattle.vdm_kinds.specs.declared.spec_fault.SpecFault.{SpecFault}
 use Rattle.vdm_grammar.specs.Texts.{IsAccepted, IsFirstRefusal, spec_limit}
-use Rattle.vdm_meaning.specs.Main.{step_limit}
-use Rattle.vdm_meaning.specs.Order.{IsInOrder}
-use Rattle.vdm_meaning.specs.Runs.{IsRun}
-use Rattle.vdm_outside.specs.Reading.{ConsumesAtMost}
 use Rattle.report_texts.specs.Words.{IsRunCommand, IsNoCommand}
 use Rattle.vdm_report.specs.declared.end.End.{End}
 use Rattle.vdm_report.specs.declared.end.End.TheVariants.{Refused, Usage, ReadFault, WriteFault, OutOfMemory}
-use Rattle.vdm_report.specs.Ends.{finish_in}
-use Rattle.vdm_report.specs.Outside.{Outside, IsCalm, IsFaulty, IsUntouched}
-use Rattle.vdm_cli.specs.Meant.{WasRead, Runs, Means}
+use Rattle.vdm_report.specs.declared.report.Report.{Report}
+use Rattle.vdm_report.specs.Ends.{status_of, finish_in}
+use Rattle.vdm_report.specs.Outside.{Outside, around, IsCalm, IsFaulty, IsUntouched}
 use Rattle.vdm_report.specs.Written.{Wrote}
+use Rattle.vdm_cli.specs.Meant.{read_of, left_of, Runs, Means}
+
+-- A call of the program: its words, its source and its sink before and after, how often the source was read before and
+-- after, and the report.
+pub record Call : Type 0 where
+  pub words : List (List ℕ)
+  pub source : Outside
+  pub reads_before : ℕ
+  pub reads_after : ℕ
+  pub sink : Outside
+  pub report : Report
+
+-- the call, by what a source tells (the bytes left, its faults and its reads) and a sink (the bytes held and its faults)
+abbrev pub call_of : {S K : Type 0} → (S → Option (List ℕ)) → (S → ℕ) → (S → ℕ) → (K → Option (List ℕ)) → (K → ℕ)
+    → List (List ℕ) → S → S → K → K → Report → Call
+call_of left faults reads held sink_faults words source source_after sink sink_after report = record {
+  words = words;
+  source = around left faults source source_after;
+  reads_before = reads source;
+  reads_after = reads source_after;
+  sink = around held sink_faults sink sink_after;
+  report = report;
+}
 
 -- a write fault and want of memory may stand in place of the end that is meant
 abbrev pub StandsFor : End → End → Type 0
@@ -23,65 +42,132 @@ StandsFor WriteFault meant = Unit {0}
 StandsFor OutOfMemory meant = Unit {0}
 StandsFor end meant = end ≡ meant
 
--- Words: usage exactly where they are no command; then nothing is read. The log is asked for exactly where the command says so.
-pub record KeepsWords (words : List (List ℕ)) (source : Outside) (journal : List Entry) (log : Bool) (end : End) : Type 0 where
-  pub usage : end ≡ Usage → IsNoCommand words
-  pub no_command : IsNoCommand words → StandsFor end Usage × IsUntouched source × IsCalm source × (journal ≡ [])
-  pub asked : (text : List ℕ) (asks : Bool) → IsRunCommand words text asks → log ≡ asks
-  pub no_log : IsNoCommand words → log ≡ false
+-- Status: the end's.
+abbrev pub KeepsStatus : Call → Type 0
+KeepsStatus call = call.report.status ≡ status_of call.report.end
 
--- Reading: at most one byte past the limit is taken, in at most as many reads.
-pub record KeepsReading {S : Type 0} (left : S → Option (List ℕ)) (reads : S → ℕ) (before after : S) : Type 0 where
-  pub taken : ConsumesAtMost (spec_limit + 1) (left before) (left after)
-  pub turns : reads after ≤ reads before + spec_limit + 1
+-- faulty words: usage, or what stands for it; nothing is read, by what is left and by the count of reads
+pub record IsUsage (call : Call) : Type 0 where
+  pub stands : StandsFor call.report.end Usage
+  pub untouched : IsUntouched call.source
+  pub unread : call.reads_after ≡ call.reads_before
+  pub calm : IsCalm call.source
+  pub no_log : call.report.log ≡ false
+
+-- Words: usage exactly where they are no command. The log is asked for exactly where the command says so.
+pub record KeepsWords (call : Call) : Type 0 where
+  pub usage : call.report.end ≡ Usage → IsNoCommand call.words
+  pub no_command : IsNoCommand call.words → IsUsage call
+  pub asked : (text : List ℕ) (asks : Bool)
+      → IsRunCommand call.words text asks
+      → call.report.log ≡ asks
+
+-- at most one byte past the limit was taken from the front of what was told, and each read but the last took a byte
+pub record Takes (call : Call) (told : List ℕ) : Type 0 where
+  pub taken : List ℕ
+  pub rest : List ℕ
+  pub front : told ≡ taken ++ rest
+  pub left : call.source.after ≡ Some rest
+  pub few : length taken ≤ spec_limit + 1
+  pub turns : call.reads_after ≤ call.reads_before + length taken + 1
+
+-- Reading: what is taken, in how many reads; also of a source that tells nothing at most one read a byte up to one past the
+-- limit.
+pub record KeepsReading (call : Call) : Type 0 where
+  pub told : (told : List ℕ)
+      → call.source.before ≡ Some told
+      → Takes call told
+  pub turns : call.reads_after ≤ call.reads_before + spec_limit + 1
 
 -- the words run the expression of this text, with the log or without
 abbrev pub RunsText : List (List ℕ) → List ℕ → Type 0
 RunsText words text = (log : Bool) × IsRunCommand words text log
 
+-- the words run the expression of a text that is accepted behind this specification
+abbrev pub AcceptsTexts : List (List ℕ) → List ℕ → Type 0
+AcceptsTexts words spec =
+    (text : List ℕ)
+    × (names : List (List ℕ))
+    × (tree : SpecTree)
+    × (expression : ExprTree)
+    × RunsText words text
+    × IsAccepted spec text names tree expression
+
+-- the words run the expression of a text that has this refusal behind these bytes
+abbrev pub RefusesTexts : List (List ℕ) → List ℕ → SpecFault → Type 0
+RefusesTexts words spec fault = (text : List ℕ) × RunsText words text × IsFirstRefusal spec text fault
+
 -- Texts: refused only where the source was read to its end or one byte past its limit, and there exactly with the first
 -- refusal; a run ends only where the source was read to its end and both texts are accepted, and there exactly.
-pub record KeepsTexts (words : List (List ℕ)) (source : Outside) (end : End) : Type 0 where
-  pub refused : (fault : SpecFault) → end ≡ Refused fault → (text spec : List ℕ) × RunsText words text × WasRead source spec × IsFirstRefusal spec text fault
-  pub refuses : (text spec told : List ℕ) (fault : SpecFault) → RunsText words text → (IsFaulty source → ⊥) → source.before ≡ Some told → WasRead source spec → IsFirstRefusal spec text fault → StandsFor end (Refused fault)
-  pub finished : IsSome (finish_in end) → (told : List ℕ) → source.before ≡ Some told → (source.after ≡ Some []) × ((text : List ℕ) × (names : List (List ℕ)) × (tree : SpecTree) × (expression : ExprTree) × RunsText words text × IsAccepted told text names tree expression)
-  pub finishes : (text told : List ℕ) (names : List (List ℕ)) (tree : SpecTree) (expression : ExprTree) → RunsText words text → (IsFaulty source → ⊥) → source.before ≡ Some told → IsAccepted told text names tree expression → IsSome (finish_in end) ⊎ ((end ≡ WriteFault) ⊎ (end ≡ OutOfMemory))
+pub record KeepsTexts (call : Call) : Type 0 where
+  pub refused : (told : List ℕ) (fault : SpecFault)
+      → call.source.before ≡ Some told
+      → call.report.end ≡ Refused fault
+      → (call.source.after ≡ Some (left_of told)) × RefusesTexts call.words (read_of told) fault
+  pub refuses : (told text : List ℕ) (fault : SpecFault)
+      → call.source.before ≡ Some told
+      → RunsText call.words text
+      → (IsFaulty call.source → ⊥)
+      → IsFirstRefusal (read_of told) text fault
+      → StandsFor call.report.end (Refused fault)
+  pub finished : (told : List ℕ)
+      → call.source.before ≡ Some told
+      → IsSome (finish_in call.report.end)
+      → (call.source.after ≡ Some []) × AcceptsTexts call.words told
+  pub finishes : (told text : List ℕ) (names : List (List ℕ)) (tree : SpecTree) (expression : ExprTree)
+      → call.source.before ≡ Some told
+      → RunsText call.words text
+      → (IsFaulty call.source → ⊥)
+      → IsAccepted told text names tree expression
+      → IsSome (finish_in call.report.end) ⊎ ((call.report.end ≡ WriteFault) ⊎ (call.report.end ≡ OutOfMemory))
 
--- The journal is a run of the trees of texts that the words and the source gave.
-pub record RunsOfRead (words : List (List ℕ)) (source : Outside) (journal : List Entry) : Type 0 where
+-- the journal is a run of the trees of the words' text and of this specification
+pub record RunsOf (call : Call) (spec : List ℕ) : Type 0 where
   pub text : List ℕ
-  pub spec : List ℕ
   pub names : List (List ℕ)
-  pub command : RunsText words text
-  pub read : WasRead source spec
-  pub runs : Runs spec text names journal
+  pub command : RunsText call.words text
+  pub runs : Runs spec text names call.report.journal
 
--- Journal: whatever the end is, it is empty, or a run of the trees of the texts that were read, and where the source told
--- them, of theirs, in the order of one lane; empty under usage, a refusal and a read fault, where the words are no command or
--- the texts have a refusal, and wherever the source was not read to its end.
-pub record KeepsJournal (words : List (List ℕ)) (source : Outside) (journal : List Entry) (end : End) : Type 0 where
-  pub some_run : (journal ≡ []) ⊎ RunsOfRead words source journal
-  pub run : (text told : List ℕ) (names : List (List ℕ)) (tree : SpecTree) (expression : ExprTree) → RunsText words text → source.before ≡ Some told → IsAccepted told text names tree expression → IsRun tree expression step_limit journal × IsInOrder tree journal
-  pub no_command : IsNoCommand words → journal ≡ []
-  pub no_trees : (text told : List ℕ) (fault : SpecFault) → RunsText words text → source.before ≡ Some told → IsFirstRefusal told text fault → journal ≡ []
-  pub unread : (told : List ℕ) → source.before ≡ Some told → source.after ≢ Some [] → journal ≡ []
-  pub usage : end ≡ Usage → journal ≡ []
-  pub refused : (fault : SpecFault) → end ≡ Refused fault → journal ≡ []
-  pub read_fault : end ≡ ReadFault → journal ≡ []
+-- Journal: whatever the end is, it is empty, or a run of the trees of the texts, in the order of one lane, and then the
+-- source was read to its end. Of a source that tells nothing it is a run behind some specification.
+pub record KeepsJournal (call : Call) : Type 0 where
+  pub told : (told : List ℕ)
+      → call.source.before ≡ Some told
+      → (call.report.journal ≡ []) ⊎ ((call.source.after ≡ Some []) × RunsOf call told)
+  pub silent : call.source.before ≡ None
+      → (call.report.journal ≡ []) ⊎ ((spec : List ℕ) × RunsOf call spec)
 
--- End: that which is meant, or a write fault or want of memory in its place; a run's end is the one that its journal has.
-abbrev pub KeepsEnd : List (List ℕ) → Bool → Outside → List Entry → End → Type 0
-KeepsEnd words log source journal end = (names : List (List ℕ)) × (meant : End) × Means words log source names journal meant × StandsFor end meant
+-- The end that is meant behind these bytes that were read; and the sink got the output: the lines of the journal where the
+-- log is asked for, over the names of the texts, and the last line of that end; a part of it under a write fault, and
+-- nothing where memory was wanting.
+pub record IsReported (call : Call) (spec : List ℕ) : Type 0 where
+  pub names : List (List ℕ)
+  pub meant : End
+  pub means : Means call.words call.report.log call.source spec names call.report.journal meant
+  pub wrote : Wrote names call.report.journal call.report.log meant call.sink call.report.end
 
--- Output: the sink got the output: the lines of the journal where the log is asked for, over the names of the texts, and the
--- last line of the end that is meant; a part of it under a write fault, and nothing where memory was wanting.
-abbrev pub KeepsOutput : List (List ℕ) → Bool → Outside → List Entry → Outside → End → Type 0
-KeepsOutput words log source journal sink end = (names : List (List ℕ)) × (meant : End) × Means words log source names journal meant × Wrote names journal log meant sink end
+-- Output: that of the end that is meant. Of a source that tells nothing it is meant behind some bytes.
+pub record KeepsOutput (call : Call) : Type 0 where
+  pub told : (told : List ℕ)
+      → call.source.before ≡ Some told
+      → IsReported call (read_of told)
+  pub silent : call.source.before ≡ None
+      → (spec : List ℕ) × IsReported call spec
 
 -- Causes: a read fault only where the source's count rose, a write fault only where the sink's did; where the source's
 -- rose the end is a read fault, or what stands for it, and where the sink's rose it is a write fault.
-pub record KeepsCauses (source sink : Outside) (end : End) : Type 0 where
-  pub read_fault : end ≡ ReadFault → IsFaulty source
-  pub write_fault : end ≡ WriteFault → IsFaulty sink
-  pub of_source : IsCalm source ⊎ (IsFaulty source × StandsFor end ReadFault)
-  pub of_sink : IsCalm sink ⊎ (IsFaulty sink × (end ≡ WriteFault))
+pub record KeepsCauses (call : Call) : Type 0 where
+  pub read_fault : call.report.end ≡ ReadFault → IsFaulty call.source
+  pub write_fault : call.report.end ≡ WriteFault → IsFaulty call.sink
+  pub of_source : IsCalm call.source ⊎ (IsFaulty call.source × StandsFor call.report.end ReadFault)
+  pub of_sink : IsCalm call.sink ⊎ (IsFaulty call.sink × (call.report.end ≡ WriteFault))
+
+-- What every call keeps.
+pub record Keeps (call : Call) : Type 0 where
+  pub status : KeepsStatus call
+  pub words : KeepsWords call
+  pub reading : KeepsReading call
+  pub texts : KeepsTexts call
+  pub journal : KeepsJournal call
+  pub output : KeepsOutput call
+  pub causes : KeepsCauses call

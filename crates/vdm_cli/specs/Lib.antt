@@ -1,3 +1,4 @@
-pub mod Headline
 pub mod Meant
 pub mod RunEnds
+pub mod Headline
+pub mod Following

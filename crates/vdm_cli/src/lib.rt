@@ -2,6 +2,12 @@
 #![tactic(auto)]
 
 mod command;
+mod laws;
 mod meant;
 mod run;
 pub mod vdm_main;
+
+pub use laws::{
+    a_silent_refusal_is_first, the_end_is_meant, the_end_is_the_runs, the_journal_is_empty,
+    the_journal_is_the_run,
+};

@@ -8,7 +8,8 @@ abbrev pub AppendsPart : Option (List ℕ) → Option (List ℕ) → List ℕ �
 AppendsPart before now bytes = (n : ℕ) × (n < length bytes) × Appends before now (take n bytes)
 
 -- a sink, before and after the bytes were written
-pub record WritesWhole {K T E : Type 0} (held : K → Option (List ℕ)) (faults : K → ℕ) (before now : K) (bytes : List ℕ) (result : Result T E) : Type 0 where
+pub record WritesWhole {K T E : Type 0} (held : K → Option (List ℕ)) (faults : K → ℕ) (before now : K) (bytes : List ℕ)
+    (result : Result T E) : Type 0 where
   pub whole : OnOk result (Appends (held before) (held now) bytes)
   pub part : OnErr result (AppendsPart (held before) (held now) bytes)
   pub cause : HasCause (faults before) (faults now) result

@@ -37,8 +37,3 @@ abbrev pub HasReportLine : End → Type 0
 HasReportLine (Ended slot) = IsNumberSlot slot
 HasReportLine WriteFault = ⊥
 HasReportLine end = Unit {0}
-
--- an end that has a last line
-abbrev pub HasLastLine : End → Type 0
-HasLastLine OutOfMemory = ⊥
-HasLastLine end = HasReportLine end

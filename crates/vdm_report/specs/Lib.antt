@@ -1,4 +1,5 @@
 pub mod Ends
+pub mod Halted
 pub mod Named
 pub mod Outside
 pub mod Written

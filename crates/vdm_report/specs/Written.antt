@@ -16,6 +16,11 @@ IsOutput names journal log meant bytes = (last : List ℕ) × IsLastLine meant l
 -- What a call wrote of the output, and how it ends then: all of it, a part of it under a write fault, or nothing where
 -- memory was wanting.
 abbrev pub Wrote : List (List ℕ) → List Entry → Bool → End → Outside → End → Type 0
-Wrote names journal log meant sink WriteFault = IsFaulty sink × ((bytes : List ℕ) × IsOutput names journal log meant bytes × AppendsPart sink.before sink.after bytes)
+Wrote names journal log meant sink WriteFault =
+    IsFaulty sink
+    × ((bytes : List ℕ) × IsOutput names journal log meant bytes × AppendsPart sink.before sink.after bytes)
 Wrote names journal log meant sink OutOfMemory = IsCalm sink × IsUntouched sink
-Wrote names journal log meant sink end = IsCalm sink × (end ≡ meant) × ((bytes : List ℕ) × IsOutput names journal log meant bytes × Appends sink.before sink.after bytes)
+Wrote names journal log meant sink end =
+    IsCalm sink
+    × (end ≡ meant)
+    × ((bytes : List ℕ) × IsOutput names journal log meant bytes × Appends sink.before sink.after bytes)

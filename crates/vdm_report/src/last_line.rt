@@ -4,7 +4,7 @@ ghost use Rattle.std.specs.Prelude.{◌≡◌, ◌++◌, IfOk, OnOk};
 ghost use Rattle.std.specs.String.{string_bytes};
 ghost use Rattle.run_journal.specs.Numbers.{IsNumberSlot};
 ghost use Rattle.report_texts.specs.Lines.{refused_line, failed_line, result_line};
-ghost use Rattle.vdm_report.specs.Ends.{IsLastLine, HasLastLine};
+ghost use Rattle.vdm_report.specs.Ends.{IsLastLine, HasReportLine};
 
 use crate::end::End;
 use log_printer::{push_place, push_thread};
@@ -17,8 +17,12 @@ const USAGE: &str =
     "usage: vdm check | vdm run EXPR [--lanes N] [--slice N] [--ticks N] [--steps N] [--entries N] [--log] | vdm make N\n";
 
 /// The last line of a report that ends so, with its line feed.
+///
+/// # Errors
+///
+/// Want of memory, also where it is the end: then there is no line.
 pub fn last_line(alloc: Global, end: &End) -> Result<String, OutOfMemory>
-    requires { HasLastLine end.now }
+    requires { HasReportLine end.now }
     ensures { IfOk result (λ text. IsLastLine end.now (string_bytes text)) }
 {
     match end {
@@ -32,7 +36,8 @@ pub fn last_line(alloc: Global, end: &End) -> Result<String, OutOfMemory>
             ..
         } => failed_line(alloc, fault, thread, place),
         End::ReadFault => Ok(String::from_str(alloc, "read fault\n")?),
-        End::WriteFault | End::OutOfMemory => unreachable!(),
+        End::OutOfMemory => Err(OutOfMemory),
+        End::WriteFault => unreachable!(),
     }
 }
 

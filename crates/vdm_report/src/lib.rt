@@ -3,11 +3,9 @@
 
 mod end;
 mod last_line;
-mod meant;
 mod report;
 mod writing;
 
 pub use end::End;
-pub use meant::Meant;
 pub use report::Report;
 pub use writing::written;

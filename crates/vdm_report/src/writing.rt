@@ -1,91 +1,82 @@
-// The report of an end, written.
+// A report, written.
 
-ghost use Rattle.std.specs.Prelude.{◌≡◌, None, [], IfOk};
+ghost use Rattle.std.specs.Prelude.{◌≡◌, None, [], IfOk, IfErr, OnOk, option_copied};
 ghost use Rattle.std.specs.List.{AllByRecursion as Each};
 ghost use Rattle.report_texts.specs.Log.{HasLogLine};
-ghost use Rattle.vdm_report.specs.Ends.{status_of, HasReportLine, HasLastLine};
+ghost use Rattle.vdm_report.specs.Ends.{status_of, HasReportLine};
 ghost use Rattle.vdm_report.specs.Outside.{around};
 ghost use Rattle.vdm_report.specs.Named.{names_in};
+ghost use Rattle.vdm_report.specs.Halted.{end_of_halt};
 ghost use Rattle.vdm_report.specs.Written.{Wrote, IsOutput};
 
 use crate::end::End;
 use crate::last_line::last_line;
-use crate::meant::Meant;
 use crate::report::Report;
 use log_printer::report_text;
-use run_journal::EntryList;
 use std::alloc::Global;
-use vdm_kinds::OutOfMemory;
+use vdm_kinds::{Halt, OutOfMemory};
 use vdm_names::Names;
-use vdm_outside::{Sink, write_whole};
+use vdm_outside::{Failed, Sink, write_whole};
 
-/// What a report tells of a run beside its last line: its journal, over the names of the texts, where the log is asked for.
-#[derive(Drop)]
-struct Told {
-    journal: EntryList,
-    names: Option<Names>,
-    log: bool,
-}
-
-/// Writes the report of what a call means, and gives it. The journal stays, whatever becomes of the report.
-pub fn written<K: Sink>(alloc: Global, meant: Meant, sink: &mut K) -> Report
+/// Writes the report that a call means, over the names of the texts that ran; none where nothing ran. Gives the report
+/// with the end that is left then. The journal stays, whatever becomes of the writing.
+pub fn written<K: Sink>(alloc: Global, meant: Report, names: Option<&Names>, sink: &mut K) -> Report
+    requires status { meant.status ≡ status_of meant.end }
     requires line { HasReportLine meant.end }
-    requires named { meant.names ≡ None → meant.journal ≡ [] }
+    requires named { names ≡ None → meant.journal ≡ [] }
     requires lines { Each HasLogLine meant.journal }
     ensures status { result.status ≡ status_of result.end }
     ensures journal { result.journal ≡ meant.journal }
     ensures log { result.log ≡ meant.log }
-    ensures wrote { Wrote (names_in meant.names) meant.journal meant.log meant.end (around K.held K.faults sink.old sink.new) result.end }
+    ensures wrote { Wrote (names_in (option_copied names.entry)) meant.journal meant.log meant.end
+        (around K.held K.faults sink.old sink.new) result.end }
 {
-    let Meant {
-        end,
-        journal,
-        names,
-        log,
-    } = meant;
-    let told = Told {
-        journal,
-        names,
-        log,
-    };
-    let end = end_written(alloc, end, &told, sink);
-    Report {
-        status: end.status(),
-        end,
-        journal: told.journal,
-        log,
+    match sent(alloc, &meant, names, sink) {
+        Ok(()) => meant,
+        Err(Halt::Of(Failed)) => meant.ending(End::WriteFault),
+        Err(Halt::OutOfMemory) => meant.ending(End::OutOfMemory),
     }
 }
 
-/// Writes the report of an end. Where memory was wanting nothing more is written.
-fn end_written<K: Sink>(alloc: Global, end: End, told: &Told, sink: &mut K) -> End
-    requires line { HasReportLine end }
-    requires named { told.now.names ≡ None → told.now.journal ≡ [] }
-    requires lines { Each HasLogLine told.now.journal }
-    ensures { Wrote (names_in told.now.names) told.now.journal told.now.log end (around K.held K.faults sink.old sink.new) result }
+/// Writes the text of a report.
+///
+/// # Errors
+///
+/// `Failed` where a write failed, behind a part of the text. Where memory was wanting, in the call or here, nothing is
+/// written.
+fn sent<K: Sink>(
+    alloc: Global,
+    report: &Report,
+    names: Option<&Names>,
+    sink: &mut K,
+) -> Result<(), Halt<Failed>>
+    requires line { HasReportLine report.now.end }
+    requires named { names ≡ None → report.now.journal ≡ [] }
+    requires lines { Each HasLogLine report.now.journal }
+    ensures sent { OnOk result (Wrote (names_in (option_copied names.entry)) report.now.journal report.now.log report.now.end
+        (around K.held K.faults sink.old sink.new) report.now.end) }
+    ensures halted { IfErr result (λ halt. Wrote (names_in (option_copied names.entry)) report.now.journal report.now.log
+        report.now.end (around K.held K.faults sink.old sink.new) (end_of_halt halt)) }
 {
-    if let End::OutOfMemory = end {
-        return end;
-    }
-    let Ok(text) = report_of(alloc, &end, told) else {
-        return End::OutOfMemory;
-    };
-    match write_whole(sink, &text) {
-        Ok(()) => end,
-        Err(_) => End::WriteFault,
-    }
+    let text = text_of(alloc, report, names)?;
+    write_whole(sink, &text).map_err(Halt::Of)
 }
 
-/// The text of the report: the log where it is asked for, and the last line.
-fn report_of(alloc: Global, end: &End, told: &Told) -> Result<Vec<u8>, OutOfMemory>
-    requires line { HasLastLine end.now }
-    requires named { told.now.names ≡ None → told.now.journal ≡ [] }
-    requires lines { Each HasLogLine told.now.journal }
-    ensures { IfOk result (λ text. IsOutput (names_in told.now.names) told.now.journal told.now.log end.now text.items) }
+/// The text of a report: the log where it is asked for, and the last line.
+///
+/// # Errors
+///
+/// Want of memory, in the call or here.
+fn text_of(alloc: Global, report: &Report, names: Option<&Names>) -> Result<Vec<u8>, OutOfMemory>
+    requires line { HasReportLine report.now.end }
+    requires named { names ≡ None → report.now.journal ≡ [] }
+    requires lines { Each HasLogLine report.now.journal }
+    ensures { IfOk result (λ text. IsOutput (names_in (option_copied names.entry)) report.now.journal report.now.log
+        report.now.end text.items) }
 {
-    let last = last_line(alloc, end)?;
-    match &told.names {
-        Some(names) => report_text(alloc, &told.journal, told.log, last.as_bytes(), names),
+    let last = last_line(alloc, &report.end)?;
+    match names {
+        Some(names) => report_text(alloc, &report.journal, report.log, last.as_bytes(), names),
         None => Ok(last.into_bytes()),
     }
 }

@@ -1,9 +1,24 @@
--- From the end that is meant and what was written of it.
-use Rattle.vdm_cli.proofs.Keeping.{keeps_texts, keeps_journal}
+-- A command's report, or that of faulty words.
+use Rattle.std.proofs.Common.{refl, map, []}
+use Rattle.std.specs.String.{string_bytes}
+use Rattle.vdm_cli.specs.Headline.{call_of}
+use Rattle.vdm_cli.proofs.Whole.{keeps_command, keeps_usage, keeps_reading, reads_nothing}
 use Rattle.vdm_cli.proofs.vdm_main.vdm_main.Goals as goal
 
-pub returns-clause-texts : goal.returns-clause-texts
-returns-clause-texts g c = keeps_texts _ _ _ _ _ _ _ _ c.meant_by-meant.ensures.means c.written.ensures.wrote
+pub returns-in-Some : goal.returns-in-Some
+returns-in-Some g c =
+    let ran = c.run_command.ensures in
+    let call = call_of g.S.Source.left g.S.Source.faults g.S.Source.reads g.K.Sink.held g.K.Sink.faults (map string_bytes c.args.words.now)
+    c.args.source.now c.run_command.new.source c.args.sink.now c.run_command.new.sink c.run_command.result in
+    keeps_command call (string_bytes c.in-Some.command.text.now) c.in-Some.command.log c.in-Some.ensures ran.log ran.status
+    (keeps_reading call ran.reading.taken ran.reading.turns) ran.runs
 
-pub returns-clause-journal : goal.returns-clause-journal
-returns-clause-journal g c = keeps_journal _ _ _ _ _ _ _ _ _ c.written.ensures.journal c.meant_by-meant.ensures.means c.written.ensures.wrote
+pub returns-in-None : goal.returns-in-None
+returns-in-None g c =
+    let made = c.without_run.ensures in
+    let sent = c.written.ensures in
+    let reading = reads_nothing g.S.Source.left g.S.Source.reads c.args.source.now in
+    let call = call_of g.S.Source.left g.S.Source.faults g.S.Source.reads g.K.Sink.held g.K.Sink.faults (map string_bytes c.args.words.now)
+    c.args.source.now c.args.source.now c.args.sink.now c.written.new.sink c.written.result in
+    keeps_usage call [] c.without_run.result.journal c.without_run.result.log c.without_run.result.end c.in-None.ensures sent.log made.log sent.journal made.journal made.end
+    refl refl refl sent.status (keeps_reading call reading.taken reading.turns) sent.wrote

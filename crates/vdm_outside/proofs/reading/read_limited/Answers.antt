@@ -11,7 +11,12 @@ returns-in_err-extend_from_slice g c =
       bytes = tt;
       most = tt;
       ended = tt;
-      taken = (c.loop-piece.bytes.items ++ take c.in_ok-count.count c.read.new.buf, (grind (arith, common_steps)), (grind (arith, common_steps, Consumes-trans)));
+      taken = record {
+        bytes = c.loop-piece.bytes.items ++ take c.in_ok-count.count c.read.new.buf;
+        few = grind (arith, common_steps);
+        front = grind (arith, common_steps, Consumes-trans);
+        turns = grind (arith, common_steps);
+      };
       turns = tt;
       budget = grind (arith, common_steps);
       cause = search rules;

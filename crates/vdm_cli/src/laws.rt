@@ -1,0 +1,88 @@
+// What follows from the clauses of the top call. Each law is the contract of a function that does nothing.
+
+ghost use Rattle.std.specs.Prelude.{◌≡◌, ◌≢◌, ℕ, List, [], Some, None, IsSome};
+ghost use Rattle.abstract_syntax.specs.Classes.{SpecTree};
+ghost use Rattle.abstract_syntax.specs.Expressions.{ExprTree};
+ghost use Rattle.vdm_kinds.specs.declared.spec_fault.SpecFault.{SpecFault};
+ghost use Rattle.vdm_grammar.specs.Texts.{IsAccepted, IsFirstRefusal};
+ghost use Rattle.vdm_meaning.specs.Main.{step_limit};
+ghost use Rattle.vdm_meaning.specs.Order.{IsInOrder};
+ghost use Rattle.vdm_meaning.specs.Runs.{IsRun, finish_of};
+ghost use Rattle.report_texts.specs.Words.{IsNoCommand};
+ghost use Rattle.vdm_report.specs.declared.end.End.TheVariants.{Refused, Usage, ReadFault};
+ghost use Rattle.vdm_report.specs.Ends.{finish_in};
+ghost use Rattle.vdm_cli.specs.Meant.{read_of};
+ghost use Rattle.vdm_cli.specs.Headline.{Call, KeepsWords, RunsText, RefusesTexts, KeepsJournal, KeepsOutput};
+ghost use Rattle.vdm_cli.specs.Following.{IsMeant};
+
+/// The end is the one that is meant, or a write fault or want of memory in its place.
+pub fn the_end_is_meant()
+    ensures told { (call : Call) (told : List ℕ)
+        → KeepsOutput call
+        → call.source.before ≡ Some told
+        → IsMeant call (read_of told) }
+    ensures silent { (call : Call)
+        → KeepsOutput call
+        → call.source.before ≡ None
+        → (spec : List ℕ) × IsMeant call spec }
+{}
+
+/// A result or a fault is the one that the journal has.
+pub fn the_end_is_the_runs()
+    ensures { (call : Call)
+        → KeepsOutput call
+        → IsSome (finish_in call.report.end)
+        → finish_of call.report.journal ≡ finish_in call.report.end }
+{}
+
+/// Where both texts are accepted, the journal is a run of their trees, in the order of one lane.
+pub fn the_journal_is_the_run()
+    ensures { (call : Call) (told text : List ℕ) (names : List (List ℕ)) (tree : SpecTree) (expression : ExprTree)
+        → KeepsJournal call
+        → call.source.before ≡ Some told
+        → RunsText call.words text
+        → IsAccepted told text names tree expression
+        → IsRun tree expression step_limit call.report.journal × IsInOrder tree call.report.journal }
+{}
+
+/// The journal is empty where the words are no command, where the texts have a refusal, where the source was not read to
+/// its end, and under usage, a refusal and a read fault.
+pub fn the_journal_is_empty()
+    ensures no_command { (call : Call)
+        → KeepsJournal call
+        → IsNoCommand call.words
+        → call.report.journal ≡ [] }
+    ensures no_trees { (call : Call) (told text : List ℕ) (fault : SpecFault)
+        → KeepsJournal call
+        → call.source.before ≡ Some told
+        → RunsText call.words text
+        → IsFirstRefusal told text fault
+        → call.report.journal ≡ [] }
+    ensures unread { (call : Call) (told : List ℕ)
+        → KeepsJournal call
+        → call.source.before ≡ Some told
+        → call.source.after ≢ Some []
+        → call.report.journal ≡ [] }
+    ensures usage { (call : Call)
+        → KeepsWords call
+        → KeepsJournal call
+        → call.report.end ≡ Usage
+        → call.report.journal ≡ [] }
+    ensures refused { (call : Call) (fault : SpecFault)
+        → KeepsOutput call
+        → call.report.end ≡ Refused fault
+        → call.report.journal ≡ [] }
+    ensures read_fault { (call : Call)
+        → KeepsOutput call
+        → call.report.end ≡ ReadFault
+        → call.report.journal ≡ [] }
+{}
+
+/// A refusal is the first one of the words' text behind some bytes, also where the source tells nothing.
+pub fn a_silent_refusal_is_first()
+    ensures { (call : Call) (fault : SpecFault)
+        → KeepsOutput call
+        → call.source.before ≡ None
+        → call.report.end ≡ Refused fault
+        → (spec : List ℕ) × RefusesTexts call.words spec fault }
+{}
