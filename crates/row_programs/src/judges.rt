@@ -1,9 +1,9 @@
 // `judge UNITS`: whether the entries are a run. `ordered`: whether they stand in the order of one lane. `finish`: how they
 // end. `run UNITS`: the entries of the run, and what these three say of them.
 
-use plain_meaning::{is_in_order, is_run};
-use plain_run::run;
-use plain_store::{Finish, finish_of};
+use plain_judge::is_run;
+use plain_run::{Ran, run};
+use plain_state::{Finish, finish_of, is_in_order};
 use row_desk::push_entries;
 use row_trees::RunDesk;
 use row_words::{Read, Words, push_names, push_shown};
@@ -23,7 +23,7 @@ pub(crate) fn answer(
         "run" => run_whole(alloc, out, words, desk)?,
         _ => {
             desk.read(alloc, words)?;
-            on_entries(out, word, desk)?;
+            on_entries(alloc, out, word, desk)?;
         }
     }
     Ok(push_names(out, &desk.journal.values.names)?)
@@ -46,9 +46,9 @@ fn push_judged(
     Ok(out.push_str(if is_run { "run" } else { "no run" })?)
 }
 
-fn on_entries(out: &mut String, word: &str, desk: &RunDesk) -> Read<()> {
+fn on_entries(alloc: Global, out: &mut String, word: &str, desk: &RunDesk) -> Read<()> {
     if word == "finish" {
-        push_finish(out, &desk.journal.entries)
+        push_finish_of(alloc, out, &desk.journal.entries)
     } else {
         push_order(out, desk, &desk.journal.entries)
     }
@@ -62,8 +62,12 @@ fn push_order(out: &mut String, desk: &RunDesk, entries: &EntryList) -> Read<()>
     })?)
 }
 
-fn push_finish(out: &mut String, entries: &EntryList) -> Read<()> {
-    match finish_of(entries) {
+fn push_finish_of(alloc: Global, out: &mut String, entries: &EntryList) -> Read<()> {
+    push_finish(out, &finish_of(alloc, entries)?)
+}
+
+fn push_finish(out: &mut String, finish: &Option<Finish>) -> Read<()> {
+    match finish {
         None => out.push_str("goes on")?,
         Some(Finish::Ended(slot)) => {
             out.push_str("ended ")?;
@@ -96,7 +100,7 @@ fn run_whole(
     let units = words.whole()?;
     desk.read(alloc, words)?;
     let ran = run(alloc, desk.spec()?, desk.tree()?, units);
-    push_judgement(alloc, out, units, desk, ran.is_whole, &ran.journal)
+    push_judgement(alloc, out, units, desk, &ran)
 }
 
 fn push_judgement(
@@ -104,14 +108,17 @@ fn push_judgement(
     out: &mut String,
     units: u64,
     desk: &RunDesk,
-    is_whole: bool,
-    journal: &EntryList,
+    ran: &Ran,
 ) -> Read<()> {
-    out.push_str(if is_whole { "whole " } else { "cut short " })?;
-    push_judged(alloc, out, units, desk, journal)?;
+    out.push_str(if ran.finish.is_some() {
+        "whole "
+    } else {
+        "cut short "
+    })?;
+    push_judged(alloc, out, units, desk, &ran.journal)?;
     out.push(' ')?;
-    push_order(out, desk, journal)?;
+    push_order(out, desk, &ran.journal)?;
     out.push_str(", ")?;
-    push_finish(out, journal)?;
-    push_entries(out, journal)
+    push_finish_of(alloc, out, &ran.journal)?;
+    push_entries(out, &ran.journal)
 }

@@ -1,12 +1,11 @@
 // `store`: the answers of the plain store to the questions in turn, where each may be answered, and the entries. `held N`:
 // what the variable of the object holds behind the entries; its class and its name are the last two names.
 
-use plain_legal::is_ready;
-use plain_store::{Store, state_of};
+use plain_state::{Store, is_ready, state_of};
 use row_desk::push_entries;
 use row_trees::RunDesk;
 use row_words::{Read, Words, push_names, push_shown};
-use run_journal::Question;
+use run_journal::{Question, Thread};
 use std::alloc::Global;
 use vdm_kinds::VarRef;
 use vdm_tree::Spec;
@@ -57,17 +56,18 @@ fn push_answered(
     store: &mut Store,
     question: Question,
 ) -> Read<()> {
-    if !is_ready(spec, store.entries().as_slice(), &question) {
+    if !is_ready(spec, store.entries().as_slice(), Thread::Main, &question) {
         return Ok(out.push_str("not ready")?);
     }
-    let answer = store.answer(alloc, spec, question)?;
+    let answer = store.answer(alloc, spec, Thread::Main, question)?;
     Ok(push_shown(out, &answer)?)
 }
 
 fn held(alloc: Global, out: &mut String, object: u32, desk: &RunDesk) -> Read<()> {
     let (class, name) = desk.journal.values.last_names()?;
     let variable = VarRef { class, name };
-    match state_of(alloc, &desk.spec, &desk.journal.entries, object, variable)? {
+    let entries = desk.journal.entries.as_slice();
+    match state_of(alloc, &desk.spec, entries, object, variable)? {
         Some(slot) => Ok(push_shown(out, &slot)?),
         None => Ok(out.push_str("none")?),
     }
