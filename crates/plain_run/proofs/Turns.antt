@@ -1,59 +1,89 @@
 -- What one more question, answered and entered, does to a run.
-use Rattle.std.proofs.Common.{◌≡◌, ℕ, List, [], ◌∷◌, ◌++◌, sym, ap, ◌∙◌, subst, append_assoc, append-nil, IsSome}
+use Rattle.std.proofs.Common.{◌≡◌, ◌⊎◌, inl, inr, ℕ, List, [], ◌∷◌, ◌++◌, None, refl, sym, ap, ◌∙◌, subst, append_assoc, append-nil}
 use Rattle.abstract_syntax.specs.Classes.{SpecTree}
 use Rattle.abstract_syntax.specs.Expressions.{ExprTree}
 use Rattle.run_journal.specs.declared.answer.Answer.{Answer}
 use Rattle.run_journal.specs.declared.entry.Entry.{Entry}
 use Rattle.run_journal.specs.declared.question.Question.{Question}
+use Rattle.run_journal.specs.declared.question.Question.TheVariants.{End, Fail}
+use Rattle.run_journal.specs.declared.thread.Thread.TheVariants.{Main}
 use Rattle.vdm_meaning.specs.Main.{Standing, asks, over, main_code}
 use Rattle.vdm_meaning.specs.Order.{IsInOrder}
 use Rattle.vdm_meaning.specs.Ready.{IsReady}
 use Rattle.vdm_meaning.specs.Runs.{IsRun, finish_of}
-use Rattle.plain_store.specs.Entered.{IsEntered}
+use Rattle.plain_state.specs.Readiness.{IsReadyFor}
+use Rattle.plain_run.specs.Turns.{GoesOn, IsAnswered, TakesTurn}
 use Rattle.vdm_meaning.proofs.AskedQuestions.{asked-ready}
+use Rattle.vdm_meaning.proofs.GoingOn.{still_asks}
 use Rattle.vdm_meaning.proofs.Journals.{main_answers, answers-more, order-on}
 use Rattle.vdm_meaning.proofs.Runs.{run_on}
-use Rattle.plain_run.proofs.Endings.{over-finished}
 
-module _ (spec : SpecTree) (tree : ExprTree) (units : ℕ) (before : List Entry) where
-  -- where main stands after the answers and further ones
-  abbrev pub stands_so : (List Answer → Standing) → Type 0
-  stands_so standing = (answers : List Answer) → standing answers ≡ main_code spec tree units (main_answers before ++ answers)
+-- what the meaning lets main ask is ready for it
+ready-for_main : (spec : SpecTree) (before : List Entry) (q : Question) → IsReady spec before q → IsReadyFor spec Main before q
+ready-for_main spec before (End slot) h = h
+ready-for_main spec before (Fail fault exit place) h = h
+ready-for_main spec before _ h = h
 
-  at_once : (standing : List Answer → Standing) → stands_so standing → standing [] ≡ main_code spec tree units (main_answers before)
-  at_once standing h = h [] ∙ ap (main_code spec tree units) (append-nil (main_answers before))
+not_both : (q : Question) → over ≡ asks q → ⊥
+not_both q e = cc
 
-  pub question-ready : (standing : List Answer → Standing) (question : Question) → IsRun spec tree units before → stands_so standing → standing [] ≡ asks question → IsReady spec before question
-  question-ready standing question h stands asked = asked-ready spec tree units before question h (sym (at_once standing stands) ∙ asked)
+module _ (spec : SpecTree) (tree : ExprTree) (units : ℕ) (before : List Entry) (standing : List Answer → Standing) (h : GoesOn spec tree units before standing) where
+  at_once : standing [] ≡ main_code spec tree units (main_answers before)
+  at_once = h.stands [] ∙ ap (main_code spec tree units) (append-nil (main_answers before))
 
-  pub run-ends : (standing : List Answer → Standing) → IsRun spec tree units before → IsInOrder spec before → stands_so standing → standing [] ≡ over → IsSome (finish_of before)
-  run-ends standing h order stands is_over = over-finished spec tree units before h order (sym (at_once standing stands) ∙ is_over)
+  pub question-ready : (question : Question) → standing [] ≡ asks question → IsReadyFor spec Main before question
+  question-ready question asked = ready-for_main spec before question (asked-ready spec tree units before question h.run (sym at_once ∙ asked))
 
-  module _ (question : Question) (answer : Answer) (after : List Entry) (entered : IsEntered spec before question answer after) where
-    pub turn-run : (standing : List Answer → Standing) → IsRun spec tree units before → stands_so standing → standing [] ≡ asks question → IsRun spec tree units after
-    turn-run standing h stands asked =
-        subst (IsRun spec tree units) (sym entered.is_last) (run_on spec tree units before question answer entered.entry h (sym (at_once standing stands) ∙ asked) entered.fits entered.made_of entered.is_legal)
+  -- main still asks
+  pub never-over : standing [] ≡ over → ⊥
+  never-over is_over =
+      let more = still_asks spec tree units before h.run h.open_end _ refl in
+      not_both more.0 (sym is_over ∙ at_once ∙ more.1)
 
-    turn-answers : main_answers after ≡ main_answers before ++ answer ∷ []
-    turn-answers = ap main_answers entered.is_last ∙ answers-more before question answer entered.entry entered.made_of
+  module _ (after : List Entry) where
+    answered-run : IsAnswered spec Main before after (standing []) → IsRun spec tree units after
+    answered-run a =
+        let e = a.entered in
+        subst (IsRun spec tree units) (sym e.is_last) (run_on spec tree units before a.question a.answer e.entry h.run (sym at_once ∙ a.asked) e.fits e.made_of e.is_legal)
 
-    pub turn-stands : (standing now : List Answer → Standing) → stands_so standing → ((answers : List Answer) → now answers ≡ standing (answer ∷ answers)) → (answers : List Answer) → now answers ≡ main_code spec tree units (main_answers after ++ answers)
-    turn-stands standing now stands on answers =
-        on answers ∙ stands (answer ∷ answers) ∙ ap (main_code spec tree units) (sym (ap (λ xs. xs ++ answers) turn-answers ∙ append_assoc (main_answers before) (answer ∷ []) answers))
+    answered-order : IsAnswered spec Main before after (standing []) → IsInOrder spec after
+    answered-order a = let e = a.entered in subst (IsInOrder spec) (sym e.is_last) (order-on spec before e.entry h.order e.is_numbered)
 
-pub turn-order : (spec : SpecTree) (before : List Entry) (question : Question) (answer : Answer) (after : List Entry) → IsEntered spec before question answer after → IsInOrder spec before → IsInOrder spec after
-turn-order spec before question answer after entered h =
-    subst (IsInOrder spec) (sym entered.is_last) (order-on spec before entered.entry h entered.is_numbered)
+    answered-answers : (a : IsAnswered spec Main before after (standing [])) → main_answers after ≡ main_answers before ++ a.answer ∷ []
+    answered-answers a = let e = a.entered in ap main_answers e.is_last ∙ answers-more before a.question a.answer e.entry e.made_of
+
+    -- where a turn was cut short it is a run all the same
+    pub cut-run : (after ≡ before) ⊎ IsAnswered spec Main before after (standing []) → IsRun spec tree units after
+    cut-run c = elim c [ inl same ↦ subst (IsRun spec tree units) (sym same) h.run | inr a ↦ answered-run a ]
+
+    pub cut-order : (after ≡ before) ⊎ IsAnswered spec Main before after (standing []) → IsInOrder spec after
+    cut-order c = elim c [ inl same ↦ subst (IsInOrder spec) (sym same) h.order | inr a ↦ answered-order a ]
+
+    module _ (now : List Answer → Standing) (t : TakesTurn spec Main before after standing now) where
+      pub turn-run : IsRun spec tree units after
+      turn-run = answered-run t.answered
+
+      pub turn-order : IsInOrder spec after
+      turn-order = answered-order t.answered
+
+      -- a turn that does not end the run
+      pub turn-goes_on : finish_of after ≡ None → GoesOn spec tree units after now
+      turn-goes_on none = record {
+        run = turn-run;
+        order = turn-order;
+        open_end = none;
+        stands = λ answers.
+            t.goes_on answers ∙ h.stands (t.answered.answer ∷ answers)
+            ∙ ap (main_code spec tree units) (sym (ap (λ xs. xs ++ answers) (answered-answers t.answered) ∙ append_assoc (main_answers before) (t.answered.answer ∷ []) answers));
+      }
 
 -- ---- before the first entry
 
-pub first-order : (spec : SpecTree) (before : List Entry) → before ≡ [] → IsInOrder spec before
-first-order spec before none = subst (IsInOrder spec) (sym none) tt
-
-module _ (spec : SpecTree) (tree : ExprTree) (units : ℕ) (before : List Entry) (none : before ≡ []) where
-  pub first-run : IsRun spec tree units before
-  first-run = subst (IsRun spec tree units) (sym none) tt
-
-  pub first-stands : (standing : List Answer → Standing) (same : SpecTree) → same ≡ spec → ((answers : List Answer) → standing answers ≡ main_code same tree units answers) → stands_so spec tree units before standing
-  first-stands standing same is stands answers =
-      stands answers ∙ ap (λ s. main_code s tree units answers) is ∙ ap (λ xs. main_code spec tree units (main_answers xs ++ answers)) (sym none)
+pub first-goes_on : (spec : SpecTree) (tree : ExprTree) (units : ℕ) (before : List Entry) → before ≡ [] → (standing : List Answer → Standing) (same : SpecTree) → same ≡ spec → ((answers : List Answer) → standing answers ≡ main_code same tree units answers) → GoesOn spec tree units before standing
+first-goes_on spec tree units before none standing same is stands = record {
+  run = subst (IsRun spec tree units) (sym none) tt;
+  order = subst (IsInOrder spec) (sym none) tt;
+  open_end = ap finish_of none;
+  stands = λ answers.
+      stands answers ∙ ap (λ s. main_code s tree units answers) is ∙ ap (λ xs. main_code spec tree units (main_answers xs ++ answers)) (sym none);
+}

@@ -2,5 +2,6 @@
 #![tactic(auto)]
 
 mod ran;
+mod turn;
 
 pub use ran::{Ran, run};

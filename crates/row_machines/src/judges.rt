@@ -3,10 +3,9 @@
 
 ghost use Rattle.std.specs.Prelude.{◌≤◌, length};
 
-use plain_legal::is_in_order;
-use plain_meaning::is_run;
+use plain_judge::is_run;
 use plain_run::{Ran, run};
-use plain_store::{Finish, finish_of};
+use plain_state::{Finish, finish_of, is_in_order};
 use row_desk::{Desk, say_entries};
 use row_words::Line;
 use run_journal::{EntryList, Thread};
@@ -43,7 +42,11 @@ fn say_judged(line: &mut Line<'_>, spec: &Spec, tree: &Expr, units: u64, entries
 fn say_run(line: &mut Line<'_>, spec: &Spec, tree: &Expr, units: u64, ran: &Ran)
     requires { length spec.now.classes.items ≤ 1 }
 {
-    line.say(if ran.is_whole { "whole " } else { "cut short " });
+    line.say(if ran.finish.is_some() {
+        "whole "
+    } else {
+        "cut short "
+    });
     say_judged(line, spec, tree, units, &ran.journal);
     line.say(" ");
     say_order(line, spec, &ran.journal);
@@ -71,17 +74,22 @@ fn say_order(line: &mut Line<'_>, spec: &Spec, entries: &EntryList) {
 }
 
 fn say_finish(line: &mut Line<'_>, entries: &EntryList) {
-    match finish_of(entries) {
-        None => line.say("goes on"),
-        Some(Finish::Ended(slot)) => say_ended(line, slot),
-        Some(
-            Finish::Failed {
-                fault,
-                exit,
-                thread,
-                place,
-            },
-        ) => say_failed(line, fault, exit, thread, place),
+    match finish_of(line.alloc(), entries) {
+        Ok(Some(finish)) => say_end(line, &finish),
+        Ok(None) => line.say("goes on"),
+        Err(OutOfMemory) => line.fall_short(),
+    }
+}
+
+fn say_end(line: &mut Line<'_>, finish: &Finish) {
+    match finish {
+        Finish::Ended(slot) => say_ended(line, slot),
+        Finish::Failed {
+            fault,
+            exit,
+            thread,
+            place,
+        } => say_failed(line, *fault, exit, *thread, *place),
     }
 }
 

@@ -6,7 +6,7 @@ ghost use Rattle.std.specs.Prelude.{◌≤◌, length};
 
 use class_table::Table;
 use journal_entries::entry_made;
-use plain_meaning::{Standing, next_question};
+use plain_judge::{Standing, next_question};
 use row_desk::{Desk, say_made};
 use row_words::Line;
 use run_journal::{Answer, AnswerList, HostAnswer, Question, Thread};

@@ -1,11 +1,10 @@
 // `store`: the answers of the plain store to the questions in turn, where each may be answered, and the entries. `held N`:
 // what the variable of the object holds behind the entries; its class and its name are the last two names.
 
-use plain_legal::is_ready;
-use plain_store::{Store, state_of};
+use plain_state::{Store, is_ready, state_of};
 use row_desk::{Desk, say_entries};
 use row_words::Line;
-use run_journal::Question;
+use run_journal::{Question, Thread};
 use std::mem;
 use vdm_kinds::{OutOfMemory, VarRef};
 use vdm_tree::Spec;
@@ -34,8 +33,8 @@ fn store(desk: &mut Desk, line: &mut Line<'_>) {
 }
 
 fn say_answered(line: &mut Line<'_>, spec: &Spec, store: &mut Store, question: Question) {
-    if is_ready(spec, store.entries().as_slice(), &question) {
-        match store.answer(line.alloc(), spec, question) {
+    if is_ready(spec, store.entries().as_slice(), Thread::Main, &question) {
+        match store.answer(line.alloc(), spec, Thread::Main, question) {
             Ok(answer) => line.show(&answer),
             Err(OutOfMemory) => line.fall_short(),
         }
@@ -47,7 +46,8 @@ fn say_answered(line: &mut Line<'_>, spec: &Spec, store: &mut Store, question: Q
 fn held(desk: &Desk, line: &mut Line<'_>, object: u32) {
     let (class, name) = desk.last_names(line);
     let variable = VarRef { class, name };
-    match state_of(line.alloc(), &desk.spec, &desk.entries, object, variable) {
+    let entries = desk.entries.as_slice();
+    match state_of(line.alloc(), &desk.spec, entries, object, variable) {
         Ok(Some(slot)) => line.show(&slot),
         Ok(None) => line.say("none"),
         Err(OutOfMemory) => line.fall_short(),

@@ -97,16 +97,6 @@ expression-no_object (apply head arguments place) h = tt
 expression-no_object (select target name name_place place) h = tt
 expression-no_object (create class class_place arguments place) h = elim h [ inl sum ↦ absurd sum | inr new ↦ absurd new ]
 
--- a run to its end
-pub runs_to_end : (spec : SpecTree) (tree : ExprTree) (journal : List Entry) (end given : End) → end ≡ given → IsRun spec tree step_limit journal → IsInOrder spec journal → Each HasLogLine journal → EndsRun journal given → HasReportLine given → RunsTo spec tree journal end
-runs_to_end spec tree journal end given is run order lines ends line =
-    subst (RunsTo spec tree journal) (sym is) (record { run = run; order = order; ends = ends; lines = lines; line = line })
-
--- a run as far as memory allowed
-pub runs_to_memory : (spec : SpecTree) (tree : ExprTree) (journal : List Entry) (end : End) → end ≡ OutOfMemory → IsRun spec tree step_limit journal → IsInOrder spec journal → Each HasLogLine journal → RunsTo spec tree journal end
-runs_to_memory spec tree journal end is run order lines =
-    subst (RunsTo spec tree journal) (sym is) (record { run = run; order = order; ends = tt; lines = lines; line = tt })
-
 -- what a call refuses is handed on as it was
 pub handed_on : {T U : Type 0} (result : Result U (Halt SpecFault)) (inner outer : Halt SpecFault) (fault : SpecFault) → result ≡ Err (Of fault) → result ≡ Err outer → outer ≡ inner → (other : Result T (Halt SpecFault)) → other ≡ Err inner → other ≡ Err (Of fault)
 handed_on result inner outer fault given is same other e = cc

@@ -1,11 +1,10 @@
 // The report that a command means, before it is written.
 
-ghost use Rattle.std.specs.Prelude.{◌≡◌, ◌≤◌, ℕ, List, [], length, IfOk, Err};
+ghost use Rattle.std.specs.Prelude.{◌≡◌, ℕ, List, IfOk, Err};
 ghost use Rattle.std.specs.List.{AllByRecursion as Each};
 ghost use Rattle.std.specs.String.{string_bytes};
 ghost use Rattle.vdm_kinds.specs.NameList.{built_in_names};
 ghost use Rattle.vdm_kinds.specs.declared.spec_fault.SpecFault.{SpecFault};
-ghost use Rattle.vdm_grammar.specs.Grammar.{IsExpression};
 ghost use Rattle.vdm_grammar.specs.Texts.{IsAccepted, IsFirstRefusal};
 ghost use Rattle.vdm_tree.specs.ClassView.{spec_view};
 ghost use Rattle.vdm_tree.specs.View.{view_of};
@@ -13,7 +12,6 @@ ghost use Rattle.report_texts.specs.Log.{HasLogLine};
 ghost use Rattle.vdm_report.specs.Ends.{status_of, HasReportLine};
 ghost use Rattle.vdm_report.specs.Outside.{around};
 ghost use Rattle.vdm_cli.specs.Meant.{MeansRun, MeansTexts, ReadsSpec};
-ghost use Rattle.vdm_cli.specs.RunEnds.{RunsTo};
 
 use crate::command::Command;
 use crate::run::run;
@@ -59,22 +57,10 @@ fn meant_of_texts(alloc: Global, spec: &[u8], text: &[u8], log: bool, names: &mu
     ensures line { HasReportLine result.end }
 {
     match accepted(alloc, spec, text, names) {
-        Ok((spec, expression)) => meant_of_trees(alloc, &spec, &expression, log),
+        Ok((spec, expression)) => run(alloc, &spec, &expression, log),
         Err(Halt::Of(fault)) => Report::without_run(alloc, End::Refused(fault), log),
         Err(Halt::OutOfMemory) => Report::without_run(alloc, End::OutOfMemory, log),
     }
-}
-
-/// What the trees of accepted texts mean: the run of the expression.
-fn meant_of_trees(alloc: Global, spec: &Spec, expression: &Expr, log: bool) -> Report
-    requires one { length spec.now.classes.items ≤ 1 }
-    requires expression { IsExpression (view_of expression.now) }
-    ensures run { RunsTo (spec_view spec.now) (view_of expression.now) result.journal result.end }
-    ensures status { result.status ≡ status_of result.end }
-    ensures log { result.log ≡ log }
-{
-    let finished = run(alloc, spec, expression);
-    Report::new(finished.end, finished.journal, log)
 }
 
 /// The trees of the two texts, where both are accepted, and their names.

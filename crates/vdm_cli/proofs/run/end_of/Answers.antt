@@ -1,10 +1,8 @@
 -- A run whose entries have lines ends with a number, or with none.
-use Rattle.std.proofs.Common.{rules, ◌≡◌, Some}
-use Rattle.vdm_meaning.specs.Runs.{finish_of, ended}
+use Rattle.std.proofs.Common.{Some, ap, ◌∙◌}
+use Rattle.plain_state.specs.Finishes.{finishes}
 use Rattle.vdm_cli.proofs.RunTexts.{ended-number}
 use Rattle.vdm_cli.proofs.run.end_of.Goals as goal
 
-pub returns-in-Some-Ended-clause-line : goal.returns-in-Some-Ended-clause-line
-returns-in-Some-Ended-clause-line c =
-    let finished : finish_of c.args.journal.now ≡ Some (ended c.in-Some-Ended.slot.now) = search rules in
-    c.ended.ensures.line (ended-number c.args.journal.now c.in-Some-Ended.slot.now c.requires.lines finished)
+pub returns-in-Ended-clause-line : goal.returns-in-Ended-clause-line
+returns-in-Ended-clause-line c = λ journal lines finished. ended-number journal c.in-Ended.slot lines (finished ∙ ap (λ f. Some (finishes f)) c.in-Ended.is)

@@ -1,0 +1,4 @@
+mod Moves
+mod Next
+mod Staying
+mod Steps

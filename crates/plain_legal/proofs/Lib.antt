@@ -1,2 +1,0 @@
-mod ClassNames
-mod Holding

@@ -1,4 +1,0 @@
-mod Staying
-mod Moves
-mod Next
-mod Steps

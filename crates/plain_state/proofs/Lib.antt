@@ -1,0 +1,4 @@
+mod ClassNames
+mod Entries
+mod LastWrites
+mod Numbers

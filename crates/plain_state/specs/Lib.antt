@@ -1,0 +1,5 @@
+pub mod Entered
+pub mod Finishes
+pub mod Holdings
+pub mod Phases
+pub mod Readiness

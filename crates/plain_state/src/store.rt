@@ -1,0 +1,173 @@
+// The list of entries of a run, from which its questions are answered.
+
+ghost use Rattle.std.specs.Prelude.{◌≡◌};
+ghost use Rattle.vdm_meaning.specs.Order.{above_all};
+
+use crate::state::state_of;
+use journal_entries::entry_made;
+use run_journal::{Answer, Deed, Entry, EntryList, Question, Thread};
+use std::alloc::Global;
+use vdm_kinds::{Name, OutOfMemory, VarRef};
+use vdm_tree::Spec;
+use vdm_values::SlotList;
+
+/// The entries of a run so far. What a question asks is found in them.
+#[derive(Drop)]
+pub struct Store {
+    entries: EntryList,
+    // One more than the greatest number of an object on which an entry stands.
+    above: u64,
+    ghost is_above: { above ≡ above_all entries },
+}
+
+impl Store {
+    ghost use Rattle.std.specs.Prelude.{◌≡◌, [], IfOk, OnErr};
+    ghost use Rattle.vdm_tree.specs.ClassView.{spec_view};
+    ghost use Rattle.plain_state.specs.Entered.{IsEntered, journal};
+    ghost use Rattle.plain_state.specs.Readiness.{IsReadyFor};
+
+    /// The store of no entries, which takes no memory.
+    pub fn new(alloc: Global) -> Store
+        ensures { journal result ≡ [] }
+    {
+        Store {
+            entries: EntryList::new(alloc),
+            above: 0,
+        }
+    }
+
+    /// Answers the thread's question and enters the entry.
+    ///
+    /// # Errors
+    /// Where memory is refused, or no number is left for a new object: then nothing is entered.
+    pub fn answer(
+        &mut self,
+        alloc: Global,
+        spec: &Spec,
+        thread: Thread,
+        question: Question,
+    ) -> Result<Answer, OutOfMemory>
+        requires ready { IsReadyFor (spec_view spec.now) thread (journal self.old) question }
+        ensures entered { IfOk result (λ answer.
+            IsEntered (spec_view spec.now) thread (journal self.old) question answer (journal self.new)) }
+        ensures err { OnErr result (journal self.new ≡ journal self.old) }
+    {
+        match question {
+            Question::New { class, values } => self.make(spec, thread, class, values),
+            Question::Read { object, var } => self.read(alloc, spec, thread, object, var),
+            question => self.note(spec, thread, question),
+        }
+    }
+
+    /// The entries so far, in order.
+    pub fn entries(&self) -> &EntryList
+        ensures { result.now ≡ journal self.now }
+    {
+        &self.entries
+    }
+
+    /// The entries, in order.
+    pub fn into_journal(self) -> EntryList
+        ensures { result ≡ journal self }
+    {
+        let Store { entries, .. } = self;
+        entries
+    }
+}
+
+impl Store {
+    ghost use Rattle.std.specs.Prelude.{◌≡◌, [], ◌∷◌, ◌++◌, IfOk, OnErr, OnOk};
+    ghost use Rattle.vdm_meaning.specs.Order.{next_number};
+    ghost use Rattle.vdm_meaning.specs.Ready.{IsReady};
+    ghost use Rattle.vdm_tree.specs.ClassView.{spec_view};
+    ghost use Rattle.plain_state.specs.Entered.{HasNothingToTell, IsEntered, journal};
+    ghost use Rattle.plain_state.specs.Readiness.{IsReadyFor};
+
+    /// Makes a new object.
+    fn make(
+        &mut self,
+        spec: &Spec,
+        thread: Thread,
+        class: Name,
+        values: SlotList,
+    ) -> Result<Answer, OutOfMemory>
+        ensures entered { IfOk result (λ answer.
+            IsEntered (spec_view spec.now) thread (journal self.old) (Question.New class values) answer (journal self.new)) }
+        ensures err { OnErr result (journal self.new ≡ journal self.old) }
+    {
+        let object = self.next_number(spec)?;
+        self.enter(Entry::new(thread, object, Deed::New { class, values }))?;
+        Ok(Answer::Object(object))
+    }
+
+    /// Reads a variable of an object. The entry and the answer each have their own copy of the value.
+    fn read(
+        &mut self,
+        alloc: Global,
+        spec: &Spec,
+        thread: Thread,
+        object: u32,
+        var: VarRef,
+    ) -> Result<Answer, OutOfMemory>
+        requires ready { IsReady (spec_view spec.now) (journal self.old) (Question.Read object var) }
+        ensures entered { IfOk result (λ answer.
+            IsEntered (spec_view spec.now) thread (journal self.old) (Question.Read object var) answer (journal self.new)) }
+        ensures err { OnErr result (journal self.new ≡ journal self.old) }
+    {
+        let Some(value) = state_of(alloc, spec, self.entries.as_slice(), object, var)? else {
+            unreachable!()
+        };
+        let answer = Answer::Slot(value.copy(alloc)?);
+        self.enter(Entry::new(thread, object, Deed::Read { var, value }))?;
+        Ok(answer)
+    }
+
+    /// Enters what the thread did where there is nothing to tell.
+    fn note(
+        &mut self,
+        spec: &Spec,
+        thread: Thread,
+        question: Question,
+    ) -> Result<Answer, OutOfMemory>
+        requires ready { IsReadyFor (spec_view spec.now) thread (journal self.old) question }
+        requires done { HasNothingToTell question }
+        ensures entered { IfOk result (λ answer.
+            IsEntered (spec_view spec.now) thread (journal self.old) question answer (journal self.new)) }
+        ensures err { OnErr result (journal self.new ≡ journal self.old) }
+    {
+        let Some(entry) = entry_made(thread, question, Answer::Done) else {
+            unreachable!()
+        };
+        self.enter(entry)?;
+        Ok(Answer::Done)
+    }
+
+    /// The number that a new object gets. Where 32 bits hold no further number, memory is wanting.
+    fn next_number(&self, spec: &Spec) -> Result<u32, OutOfMemory>
+        ensures { IfOk result (λ number. number ≡ next_number (spec_view spec.now) (journal self.now)) }
+    {
+        let first = spec.classes.len() as u64 + 1;
+        let next = if first > self.above {
+            first
+        } else {
+            self.above
+        };
+        if next > u32::MAX as u64 {
+            return Err(OutOfMemory);
+        }
+        Ok(next as u32)
+    }
+
+    /// Adds the entry last.
+    fn enter(&mut self, entry: Entry) -> Result<(), OutOfMemory>
+        ensures ok { OnOk result (journal self.new ≡ journal self.old ++ entry ∷ []) }
+        ensures err { OnErr result (journal self.new ≡ journal self.old) }
+    {
+        let behind = entry.object as u64 + 1;
+        self.entries.push(entry)?;
+        if behind > self.above {
+            self.above = behind;
+        }
+        Ok(())
+    }
+}

@@ -1,4 +1,0 @@
-mod Entries
-mod LastWrites
-mod Layouts
-mod Numbers

@@ -1,7 +1,0 @@
-use Rattle.std.proofs.Common.{◌≡◌, drop}
-use Rattle.vdm_meaning.specs.Runs.{finish_of}
-use Rattle.plain_store.proofs.finish.finish_of.Given as goal
-
--- the entries so far decide nothing
-abbrev pub invariant-loop-entry : goal.invariant-loop-entry
-invariant-loop-entry l = finish_of (drop l.entry-index l.entry-items) ≡ finish_of l.entry-items

@@ -1,8 +1,0 @@
-use Rattle.std.proofs.Common.{◌++◌, ◌∷◌, [], ap, ◌∙◌}
-use Rattle.plain_store.specs.Entered.{journal}
-use Rattle.plain_store.proofs.Entries.{new-entered}
-use Rattle.plain_store.proofs.store.Store.make.Goals as goal
-
-pub returns-clause-entered : goal.returns-clause-entered
-returns-clause-entered c =
-    new-entered _ _ _ _ _ _ c.in_ok-object.ensures (c.in_ok-enter.ensures.ok ∙ ap (λ e. journal c.args.self.now ++ e ∷ []) c.new.ensures)

@@ -1,8 +1,0 @@
--- How the program says that a run ends, in the words of the meaning.
-use Rattle.vdm_meaning.specs.Runs.{Finish as Meant, ended, failed}
-use Rattle.plain_store.specs.declared.finish.Finish.{Finish}
-use Rattle.plain_store.specs.declared.finish.Finish.TheVariants.{Ended, Failed}
-
-abbrev pub finishes : Finish → Meant
-finishes (Ended value) = ended value.now
-finishes (Failed fault exit thread place) = failed fault exit.now thread place

@@ -1,3 +1,0 @@
-pub mod Entered
-pub mod Finishes
-pub mod Layout
