@@ -1,5 +1,5 @@
 -- How many questions may have been asked: with one more, behind a task, and where a task is entered.
-use Rattle.std.proofs.Common.{◌≡◌, ℕ, zero, suc, ◌+◌, ◌*◌, ◌≤◌, List, [], ◌∷◌, length, Option, Some, None, arith}
+use Rattle.std.proofs.Common.{◌≡◌, ℕ, zero, suc, ◌+◌, List, [], ◌∷◌, length, Option, Some, None, arith}
 use Rattle.plans.specs.Steps.{OneOf, MayHaveAsked}
 
 -- nothing was asked, and all units are left

@@ -1,9 +1,9 @@
 -- A task asks at most as many questions for each unit as a plan asks of its own.
-use Rattle.std.proofs.Common.{◌≡◌, ℕ, zero, suc, ◌*◌, ◌<◌, List, length, Some, subst, arith}
+use Rattle.std.proofs.Common.{◌≡◌, ℕ, ◌*◌, ◌<◌, List, length, Some, subst, arith}
 use Rattle.plans.specs.Plans.{Plan, Outcome, needs, meaning}
 use Rattle.plans.specs.Bound.{AsksAtMost}
 use Rattle.plans.specs.Laws.{QuestionsAreBounded}
-use Rattle.plans.specs.Steps.{answers, KeepRules, MayHaveAsked, SoundBy}
+use Rattle.plans.specs.Steps.{KeepRules, MayHaveAsked, SoundBy}
 use Rattle.plans.proofs.Free.{free, any_result, answering, answers-answering, length-answering, free-plays, free-bounded}
 use Rattle.plans.proofs.Sound.{task-sound}
 

@@ -1,7 +1,7 @@
 -- A plan that keeps the rules is sound: each result was earned, each fault may be failed with, and each question may be asked and is one of few.
 use Rattle.std.proofs.Common.{◌≡◌, ℕ, zero, suc, List, [], ◌∷◌, ◌++◌, length, Option, Some, refl, sym, ap, ◌∙◌, subst}
 use Rattle.plans.specs.Plans.{Plan, Outcome, finish, fail, ask, part, become, gives, faults, needs, onward, run, go, meaning}
-use Rattle.plans.specs.Steps.{Rules, Step, answers, last, Plays, OneOf, Safe, KeepRules, MayHaveAsked, Reached, SoundBy, Sound}
+use Rattle.plans.specs.Steps.{Rules, Step, answers, last, Plays, Safe, KeepRules, MayHaveAsked, Reached, SoundBy, Sound}
 use Rattle.plans.specs.Laws.{StepsAreSound}
 use Rattle.plans.proofs.Asking.{asked-none, asked-nothing, asked-wider, asked-entering, asked-behind, rising, one-of}
 use Rattle.plans.proofs.Playing.{answers-behind, plays-first, plays-behind, plays-same}

@@ -1,9 +1,9 @@
 -- An outcome that was reached took some answers from the front, and takes them whatever stands behind.
-use Rattle.std.proofs.Common.{◌≡◌, ℕ, List, [], ◌∷◌, ◌++◌, None, refl, sym, ap, ◌∙◌, subst}
+use Rattle.std.proofs.Common.{◌≡◌, ℕ, List, ◌++◌, None, refl, sym, ap, ◌∙◌, subst}
 use Rattle.plans.specs.Plans.{Plan, Outcome, gives, faults, needs, run, meaning, TakesFrom}
 use Rattle.plans.specs.Laws.{AnswersAreTakenFromTheFront}
 use Rattle.plans.specs.Steps.{answers, KeepRules, MayHaveAsked, Reached, SoundBy}
-use Rattle.plans.proofs.Free.{Nothing, free, any_result, answering, answers-answering, free-plays, free-safe}
+use Rattle.plans.proofs.Free.{free, any_result, answering, answers-answering, free-plays, free-safe}
 use Rattle.plans.proofs.Playing.{answers-behind}
 use Rattle.plans.proofs.Sound.{sound}
 

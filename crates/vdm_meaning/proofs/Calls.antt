@@ -1,5 +1,5 @@
 -- Calls keep the rules of journals.
-use Rattle.std.proofs.Common.{◌≡◌, ℕ, Bool, true, false, if◌then◌else◌, List, [], ◌∷◌, ◌++◌, Option, Some, None, Result, Ok, Err, refl, ap, subst}
+use Rattle.std.proofs.Common.{◌≡◌, ℕ, Bool, true, false, if◌then◌else◌, List, Option, Some, None, Result, Ok, Err, refl, ap, subst}
 use Rattle.vdm_kinds.specs.declared.name.Name.{Name}
 use Rattle.vdm_kinds.specs.declared.place.Place.{Place}
 use Rattle.vdm_kinds.specs.declared.run_fault.RunFault.{RunFault}
@@ -19,7 +19,7 @@ use Rattle.run_journal.specs.Made.{entry}
 use Rattle.run_journal.specs.Numbers.{IsNumberSlot}
 use Rattle.plans.specs.Plans.{ask}
 use Rattle.vdm_meaning.specs.Calls.{Wanted, a_value, no_value, given, operation_ref, left_by, tested, finished, activated, call_of, call_found, call_on_class, call_on, call_plan}
-use Rattle.vdm_meaning.specs.Tasks.{Env, outside, inside, Flow, gave}
+use Rattle.vdm_meaning.specs.Tasks.{Env, inside, Flow, gave}
 use Rattle.vdm_meaning.specs.Types.{fits}
 use Rattle.vdm_meaning.proofs.Asking.{safe-ask}
 use Rattle.vdm_meaning.proofs.Births.{IsBorn, born-there}

@@ -1,5 +1,5 @@
 -- A run that is not finished goes on, in the order of one lane.
-use Rattle.std.proofs.Common.{◌≡◌, ℕ, List, [], ◌∷◌, ◌++◌, Some, None, refl, sym, ap, ◌∙◌, subst, append_assoc, append-nil}
+use Rattle.std.proofs.Common.{◌≡◌, ℕ, List, [], ◌∷◌, ◌++◌, Some, None, refl, sym, ap, ◌∙◌, subst, append_assoc}
 use Rattle.vdm_kinds.specs.declared.place.Place.{Place}
 use Rattle.vdm_kinds.specs.declared.run_fault.RunFault.{RunFault}
 use Rattle.vdm_values.specs.declared.slot.Slot.{Slot}
@@ -14,7 +14,7 @@ use Rattle.run_journal.specs.declared.question.Question.TheVariants.{Fail}
 use Rattle.run_journal.specs.declared.thread.Thread.TheVariants.{Main}
 use Rattle.run_journal.specs.Made.{made, entry}
 use Rattle.plans.specs.Plans.{Outcome, gives, faults, needs}
-use Rattle.plans.specs.Steps.{Step, answers, last}
+use Rattle.plans.specs.Steps.{answers, last}
 use Rattle.vdm_meaning.specs.Faults.{Fault}
 use Rattle.vdm_meaning.specs.Main.{asks, standing_of, main_code}
 use Rattle.vdm_meaning.specs.Order.{IsInOrder}
@@ -23,7 +23,7 @@ use Rattle.vdm_meaning.specs.Tasks.{Flow}
 use Rattle.vdm_meaning.proofs.AskedQuestions.{has_failed, asked-ready}
 use Rattle.vdm_meaning.proofs.Journals.{main_answers, neither, order-on, undecided-parts}
 use Rattle.vdm_meaning.proofs.Runs.{run_front, run_on, legal-for_main, run-last}
-use Rattle.vdm_meaning.proofs.RunSteps.{IsMainSound, cut, last-steps, main_outcome, run-answers, run-sound, steps_of}
+use Rattle.vdm_meaning.proofs.RunSteps.{IsMainSound, cut, last-steps, main_outcome, run-sound, steps_of}
 use Rattle.vdm_meaning.proofs.Taken.{ready-answer}
 
 -- main's entry for a failure decides the run

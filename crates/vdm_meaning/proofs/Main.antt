@@ -1,5 +1,5 @@
 -- The code of main keeps the rules of journals, and where it is done the run is finished.
-use Rattle.std.proofs.Common.{◌≡◌, ◌≢◌, ℕ, suc, ◌+◌, ◌≤◌, List, [], ◌∷◌, ◌++◌, length, length-append, Option, Some, None, refl, sym, ap, ◌∙◌, append_assoc, arith, if◌then◌else◌}
+use Rattle.std.proofs.Common.{◌≡◌, ℕ, suc, ◌+◌, ◌≤◌, List, [], ◌∷◌, ◌++◌, length, length-append, Some, None, refl, sym, ap, ◌∙◌, append_assoc, arith, if◌then◌else◌}
 use Rattle.std.specs.Prelude.{slice_get}
 use Rattle.std.proofs.lemmas.Bool.{ne_eqb}
 use Rattle.std.proofs.lemmas.List.Elements.{filter-append}
@@ -22,9 +22,9 @@ use Rattle.vdm_meaning.specs.Runs.{finish_of}
 use Rattle.vdm_meaning.specs.Tasks.{outside, Flow, Code}
 use Rattle.vdm_meaning.proofs.Asking.{safe-ask}
 use Rattle.vdm_meaning.proofs.Journals.{undecided-parts}
-use Rattle.vdm_meaning.proofs.Parts.{IsAt, at-start, at-later}
+use Rattle.vdm_meaning.proofs.Parts.{IsAt, at-later}
 use Rattle.vdm_meaning.proofs.Rules.{GivesNumber, MayRun, MayBegin, MayLeave, IsSafe}
-use Rattle.vdm_meaning.proofs.Sanity.{IsSane, IsQuiet, sane-start, within-self, within-then, quiet-sane, quiet-within}
+use Rattle.vdm_meaning.proofs.Sanity.{IsSane, IsQuiet, sane-start, within-then, quiet-sane, quiet-within}
 
 -- the run is finished, whatever came of main
 abbrev pub LeavesAnEnd : List Entry → Flow → Type 0

@@ -1,5 +1,5 @@
 -- Parts of plans that keep the rules: where a plan stands, how it fails, and expressions whose value is wanted.
-use Rattle.std.proofs.Common.{◌≡◌, Bool, true, false, if◌then◌else◌, List, [], ◌∷◌, ◌++◌, refl}
+use Rattle.std.proofs.Common.{◌≡◌, Bool, true, false, if◌then◌else◌, List, ◌++◌, refl}
 use Rattle.std.specs.Prelude.{ℕ, Option}
 use Rattle.vdm_kinds.specs.declared.place.Place.{Place}
 use Rattle.vdm_kinds.specs.declared.run_fault.RunFault.{RunFault}

@@ -1,5 +1,5 @@
 -- Statements keep the rules of journals.
-use Rattle.std.proofs.Common.{ℕ, Bool, false, List, [], ◌∷◌, ◌++◌, Option, Some, None, refl}
+use Rattle.std.proofs.Common.{ℕ, Bool, false, List, [], ◌∷◌, Option, Some, None, refl}
 use Rattle.vdm_kinds.specs.declared.place.Place.{Place}
 use Rattle.vdm_kinds.specs.declared.run_fault.RunFault.TheVariants.{TypeFault, Undefined}
 use Rattle.vdm_values.specs.declared.slot.Slot.TheVariants.{Held}
