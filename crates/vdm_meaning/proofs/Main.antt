@@ -71,8 +71,7 @@ module _ (spec : SpecTree) where
     safe-end_with : (before : List Entry) (flow : Flow) → IsAt spec [] before outside → (GivesNoObject tree → GivesNumber flow) → IsSafe spec tree LeavesAnEnd (Some 1) [] before (end_with flow)
     safe-end_with before flow is_at h =
         safe-ask spec tree LeavesAnEnd [] before 0 (λ a. finish flow) (End (end_slot flow)) (entry Main 0 (deed.End (end_slot flow))) (λ a taken is. is)
-        (record { ready = is_at.here.main; sane = is_at.here.sane; numbers = h })
-        (
+        (record { ready = is_at.here.main; sane = is_at.here.sane; numbers = h }) (
           within-then [] before _ is_at.within (quiet-within before 0 (deed.End (end_slot flow)) (end-quiet (end_slot flow))),
           λ none.
               let last = (undecided-parts before (entry Main 0 (deed.End (end_slot flow)) ∷ []) none).1 in

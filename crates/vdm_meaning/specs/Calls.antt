@@ -84,8 +84,10 @@ call_on spec name place wanted _ = fail (fault_at TypeFault place)
 -- what an application does, by what is applied: a name is an operation of the object itself; of a selection the object is
 -- evaluated first. So far no operation has a parameter.
 abbrev pub call_plan : SpecTree → Env → ExprTree → ExprTrees → Place → Wanted → Code
-call_plan spec (inside me class) (named name name_place) no_exprs place wanted = call_found class me (operation_named class name) place wanted
-call_plan spec env (select target name name_place dot) no_exprs place wanted = part (expr_in env target) (with_value place (call_on spec name place wanted))
+call_plan spec (inside me class) (named name name_place) no_exprs place wanted =
+    call_found class me (operation_named class name) place wanted
+call_plan spec env (select target name name_place dot) no_exprs place wanted =
+    part (expr_in env target) (with_value place (call_on spec name place wanted))
 call_plan spec env _ _ place wanted = fail (fault_at TypeFault place)
 
 -- ---- new objects
