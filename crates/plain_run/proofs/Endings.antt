@@ -7,7 +7,7 @@ use Rattle.run_journal.specs.declared.question.Question.{Question}
 use Rattle.vdm_meaning.specs.Main.{asks, over, main_code}
 use Rattle.vdm_meaning.specs.Order.{IsInOrder}
 use Rattle.vdm_meaning.specs.Runs.{Finish, IsRun, finish_of}
-use Rattle.vdm_meaning.proofs.Ending.{legal-for_main, run-last}
+use Rattle.vdm_meaning.proofs.Runs.{legal-for_main, run-last}
 use Rattle.vdm_meaning.proofs.GoingOn.{run-goes_on}
 use Rattle.vdm_meaning.proofs.Journals.{main_answers}
 

@@ -16,7 +16,7 @@ use Rattle.run_journal.specs.declared.entry.Entry.{Entry}
 use Rattle.run_journal.specs.declared.thread.Thread.TheVariants.{Main}
 use Rattle.run_journal.specs.Made.{entry}
 use Rattle.run_journal.specs.Parts.{is_on, object_part}
-use Rattle.vdm_meaning.specs.Calls.{created, make_object, with_slot, initial_then, initialise, new_of}
+use Rattle.vdm_meaning.specs.Objects.{created, make_object, with_slot, initial_then, initialise, new_of}
 use Rattle.vdm_meaning.specs.Tasks.{outside, Flow, gave, Code}
 use Rattle.vdm_meaning.specs.Types.{all_fit}
 use Rattle.vdm_meaning.proofs.Asking.{safe-New}
