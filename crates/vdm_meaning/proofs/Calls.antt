@@ -1,5 +1,5 @@
 -- Calls keep the rules of journals.
-use Rattle.std.proofs.Common.{◌≡◌, ℕ, Bool, true, false, if◌then◌else◌, List, Option, Some, None, Result, Ok, Err, refl, ap, subst}
+use Rattle.std.proofs.Common.{◌≡◌, ℕ, Bool, true, false, if◌then◌else◌, List, Option, Some, None, Result, Ok, Err, IfOk, refl, ap, subst}
 use Rattle.vdm_kinds.specs.declared.name.Name.{Name}
 use Rattle.vdm_kinds.specs.declared.place.Place.{Place}
 use Rattle.vdm_kinds.specs.declared.run_fault.RunFault.{RunFault}
@@ -30,17 +30,13 @@ use Rattle.vdm_meaning.proofs.Types.{fits-number}
 
 -- ---- what the test of a result lets through
 
-abbrev IsNumberIfOk : Result Slot RunFault → Type 0
-IsNumberIfOk (Ok slot) = IsNumberSlot slot
-IsNumberIfOk (Err fault) = Unit {0}
-
-tested-number : (declared : Option TypeTree) (slot : Slot) → IsNumberIfOk (tested declared slot)
+tested-number : (declared : Option TypeTree) (slot : Slot) → IfOk (tested declared slot) IsNumberSlot
 tested-number None Unset = tt
 tested-number None (Held v) = tt
 tested-number (Some declared) Unset = tt
 tested-number (Some declared) (Held v) = by (fits declared v) refl
   where
-    by : (b : Bool) → fits declared v ≡ b → IsNumberIfOk (if b then Ok (Held v) else Err TypeFault)
+    by : (b : Bool) → fits declared v ≡ b → IfOk (if b then Ok (Held v) else Err TypeFault) IsNumberSlot
     by true e = fits-number declared v e
     by false e = tt
 
@@ -64,7 +60,7 @@ module _ (spec : SpecTree) (tree : ExprTree) (left : List Entry → Flow → Typ
       at-end : IsAt spec first (behind_finish after me (operation_ref class op)) env
       at-end = at-later spec first before (behind_finish after me (operation_ref class op)) env is_at (finished-within before me (operation_ref class op) is_at.here.sane after w) (finished-sane before me (operation_ref class op) is_at.here.sane after w sane)
 
-      safe-finished : (result : Result Slot RunFault) → IsNumberIfOk result → IsSafe spec tree left (Some 1) first after (finished class me op place wanted result)
+      safe-finished : (result : Result Slot RunFault) → IfOk result IsNumberSlot → IsSafe spec tree left (Some 1) first after (finished class me op place wanted result)
       safe-finished (Err fault) h = may-fail spec tree after (inside me class) fault place callee-done
       safe-finished (Ok slot) h =
           safe-ask spec tree left first after 0 (λ a. given wanted place slot) (Fin me (operation_ref class op)) (entry Main me (deed.Fin (operation_ref class op))) (λ a taken is. is)

@@ -1,5 +1,5 @@
 -- Expressions keep the rules of journals.
-use Rattle.std.proofs.Common.{◌≡◌, ℕ, List, [], ◌∷◌, ◌++◌, Option, Some, None, Result, Ok, Err, refl}
+use Rattle.std.proofs.Common.{◌≡◌, ℕ, List, [], ◌∷◌, ◌++◌, Option, Some, None, Result, Ok, Err, IfOk, refl}
 use Rattle.vdm_kinds.specs.declared.member.VarRef.{VarRef}
 use Rattle.vdm_kinds.specs.declared.name.Name.{Name}
 use Rattle.vdm_kinds.specs.declared.operator.Operator.{Operator}
@@ -16,7 +16,7 @@ use Rattle.run_journal.specs.declared.deed.Deed.TheVariants as deed
 use Rattle.run_journal.specs.declared.entry.Entry.{Entry}
 use Rattle.run_journal.specs.declared.thread.Thread.TheVariants.{Main}
 use Rattle.run_journal.specs.Made.{entry}
-use Rattle.run_journal.specs.Numbers.{IsNumberSlot}
+use Rattle.run_journal.specs.Numbers.{IsNumber, IsNumberSlot}
 use Rattle.vdm_meaning.specs.Calls.{a_value}
 use Rattle.vdm_meaning.specs.Expressions.{value_or_fault, operator_on, right_operand, variable_ref, read_value, read_found, expr_plan}
 use Rattle.vdm_meaning.specs.Operators.{applied}
@@ -25,7 +25,7 @@ use Rattle.vdm_meaning.proofs.Asking.{safe-Read}
 use Rattle.vdm_meaning.proofs.Births.{born-there, variable-holds, held-number}
 use Rattle.vdm_meaning.proofs.Calls.{safe-call_plan}
 use Rattle.vdm_meaning.proofs.Objects.{safe-new_of, class_named-itself}
-use Rattle.vdm_meaning.proofs.Operators.{IsNumberIfOk, applied-number}
+use Rattle.vdm_meaning.proofs.Operators.{applied-number}
 use Rattle.vdm_meaning.proofs.Parts.{IsAt, at-start, at-later, may-fail, gives-known, safe-expression}
 use Rattle.vdm_meaning.proofs.Rules.{GivesNumber, MayRun, MayLeave, IsSafe}
 use Rattle.vdm_meaning.proofs.Sanity.{IsSane, IsQuiet, quiet-sane, quiet-within}
@@ -35,7 +35,7 @@ read-quiet var slot = λ name. (refl, refl, refl)
 
 module _ (spec : SpecTree) (tree : ExprTree) where
   module _ (left : List Entry → Flow → Type 0) (first : List Entry) (from_number : (entries : List Entry) (flow : Flow) → IsSane entries → GivesNumber flow → left entries flow) where
-    safe-value_or_fault : (n : Option ℕ) (before : List Entry) (env : Env) (place : Place) (result : Result ValueTree RunFault) → IsAt spec first before env → IsNumberIfOk result → IsSafe spec tree left n first before (value_or_fault place result)
+    safe-value_or_fault : (n : Option ℕ) (before : List Entry) (env : Env) (place : Place) (result : Result ValueTree RunFault) → IsAt spec first before env → IfOk result IsNumber → IsSafe spec tree left n first before (value_or_fault place result)
     safe-value_or_fault n before env place (Ok v) is_at h = (is_at.within, from_number before (gave (Held v)) is_at.here.sane h)
     safe-value_or_fault n before env place (Err fault) is_at h = may-fail spec tree before env fault place is_at.here
 

@@ -1,5 +1,5 @@
 -- Which entry a question and its answer make where the entry is legal, and which answer what is ready has.
-use Rattle.std.proofs.Common.{◌≡◌, ℕ, true, false, List, [], Option, Some, None, refl, ap, sym, ◌∙◌, subst, arith}
+use Rattle.std.proofs.Common.{◌≡◌, ℕ, true, false, List, [], Some, IfSome, refl, ap, sym, ◌∙◌, subst, arith}
 use Rattle.vdm_values.specs.declared.slot.Slot.{Slot}
 use Rattle.abstract_syntax.specs.Classes.{SpecTree}
 use Rattle.run_journal.specs.declared.answer.Answer.{Answer}
@@ -31,11 +31,11 @@ IsEntryFor spec before (Fail fault exit place) a e = (a ≡ Done) × (e ≡ entr
 IsEntryFor spec before _ a e = ⊥
 
 module _ (spec : SpecTree) (before : List Entry) where
-  abbrev IsEntryIf : Question → Answer → Option Entry → Type 0
-  IsEntryIf q a None = Unit {0}
-  IsEntryIf q a (Some e) = IsLegalAtObject spec e.object (object_part e.object before) e.deed → IsEntryFor spec before q a e
+  -- where the entry is legal, it is the one for the question
+  abbrev IsEntryIfLegal : Question → Answer → Entry → Type 0
+  IsEntryIfLegal q a e = IsLegalAtObject spec e.object (object_part e.object before) e.deed → IsEntryFor spec before q a e
 
-  made-for : (q : Question) (a : Answer) → IsEntryIf q a (made Main q a)
+  made-for : (q : Question) (a : Answer) → IfSome (made Main q a) (IsEntryIfLegal q a)
   made-for (Class o class slots) Done = λ legal. (refl, refl)
   made-for (New class slots) (Object n) = λ legal. (n, refl, legal.0, refl)
   made-for (Req o op) Done = λ legal. (refl, refl)
@@ -57,7 +57,7 @@ module _ (spec : SpecTree) (before : List Entry) where
   made-for _ _ = tt
 
   pub legal-entry : (q : Question) (a : Answer) (e : Entry) → made Main q a ≡ Some e → IsLegalAtObject spec e.object (object_part e.object before) e.deed → IsEntryFor spec before q a e
-  legal-entry q a e m legal = subst (IsEntryIf q a) m (made-for q a) legal
+  legal-entry q a e m legal = subst (λ o. IfSome o (IsEntryIfLegal q a)) m (made-for q a) legal
 
   -- two entries for one question, both legal and numbered, are the same
   pub one-entry : (q : Question) (a b : Answer) (x y : Entry) → IsEntryFor spec before q a x → IsEntryFor spec before q b y → IsNumbered spec before x.object x.deed → IsNumbered spec before y.object y.deed → x ≡ y
