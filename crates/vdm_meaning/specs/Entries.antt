@@ -44,7 +44,8 @@ code_of spec tree units _ answers = over
 
 -- An entry is legal for a thread behind the thread's entries: it is made of the question that the thread's code needs
 -- after their answers, and of an answer that fits it. So nothing stands behind the thread's end or failure.
-pub record IsLegalForThread (spec : SpecTree) (tree : ExprTree) (units : ℕ) (thread : Thread) (before : List Entry) (entry : Entry) : Type 0 where
+pub record IsLegalForThread
+    (spec : SpecTree) (tree : ExprTree) (units : ℕ) (thread : Thread) (before : List Entry) (entry : Entry) : Type 0 where
   pub question : Question
   pub answer : Answer
   pub asked : code_of spec tree units thread (map answer_of before) ≡ asks question

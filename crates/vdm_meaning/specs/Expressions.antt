@@ -17,7 +17,8 @@ use Rattle.plans.specs.Plans.{fail, ask, part}
 use Rattle.vdm_meaning.specs.Faults.{fault_at}
 use Rattle.vdm_meaning.specs.Operators.{applied}
 use Rattle.vdm_meaning.specs.Tasks.{Env, outside, inside, expr_in, Code, with_value, value}
-use Rattle.vdm_meaning.specs.Calls.{a_value, call_plan, new_of}
+use Rattle.vdm_meaning.specs.Calls.{a_value, call_plan}
+use Rattle.vdm_meaning.specs.Objects.{new_of}
 
 -- the value, or the fault at the node's place
 abbrev pub value_or_fault : Place → Result ValueTree RunFault → Code

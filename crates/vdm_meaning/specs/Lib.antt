@@ -3,6 +3,7 @@ pub mod Operators
 pub mod Tasks
 pub mod Types
 pub mod Calls
+pub mod Objects
 pub mod Expressions
 pub mod Statements
 pub mod TaskPlans

@@ -19,7 +19,8 @@ IsReady spec before (Act object op) =
     (object_part object before ≢ []) × (activations op.name (object_part object before) < requests op.name (object_part object before))
 IsReady spec before (Fin object op) =
     (object_part object before ≢ []) × (finishes op.name (object_part object before) < activations op.name (object_part object before))
-IsReady spec before (Read object var) = (object_part object before ≢ []) × ((slot : Slot) × (state_of spec (object_part object before) var ≡ Some slot))
+IsReady spec before (Read object var) =
+    (object_part object before ≢ []) × ((slot : Slot) × (state_of spec (object_part object before) var ≡ Some slot))
 IsReady spec before (Write object writes) = object_part object before ≢ []
 IsReady spec before (End slot) = object_part 0 before ≢ []
 IsReady spec before (Fail fault exit place) = object_part 0 before ≢ []

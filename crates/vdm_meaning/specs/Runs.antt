@@ -21,7 +21,8 @@ pub record IsLegal (spec : SpecTree) (tree : ExprTree) (units : ℕ) (before : L
 -- each of the entries is legal behind those before it
 abbrev pub AreLegal : SpecTree → ExprTree → ℕ → List Entry → List Entry → Type 0
 AreLegal spec tree units before [] = Unit {0}
-AreLegal spec tree units before (entry ∷ entries) = IsLegal spec tree units before entry × AreLegal spec tree units (before ++ entry ∷ []) entries
+AreLegal spec tree units before (entry ∷ entries) =
+    IsLegal spec tree units before entry × AreLegal spec tree units (before ++ entry ∷ []) entries
 
 -- a run of a specification and an expression, whose threads have this many units each
 abbrev pub IsRun : SpecTree → ExprTree → ℕ → List Entry → Type 0
