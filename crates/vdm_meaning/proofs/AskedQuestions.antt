@@ -12,17 +12,19 @@ use Rattle.plans.specs.Plans.{Outcome, gives, faults, needs}
 use Rattle.plans.specs.Steps.{Step, answers, last, Failed, MayHaveAsked}
 use Rattle.plans.proofs.Playing.{answers-behind}
 use Rattle.vdm_meaning.specs.Faults.{Fault}
-use Rattle.vdm_meaning.specs.Main.{GivesNoObject, asks, standing_of, main_code, classes_of}
-use Rattle.vdm_meaning.specs.Ready.{IsReady}
-use Rattle.vdm_meaning.specs.Runs.{IsLegal, AreLegal, IsRun, finish_of}
+use Rattle.vdm_legal.specs.ClassObjects.{classes_of}
+use Rattle.vdm_meaning.specs.Main.{GivesNoObject, asks, standing_of, main_code}
+use Rattle.vdm_legal.specs.Ready.{IsReady}
+use Rattle.vdm_legal.specs.Finishes.{finish_of}
+use Rattle.vdm_meaning.specs.Runs.{IsLegal, AreLegal, IsRun}
 use Rattle.vdm_meaning.specs.Tasks.{Flow}
-use Rattle.vdm_meaning.proofs.Births.{held-number}
-use Rattle.vdm_meaning.proofs.Journals.{main_answers}
+use Rattle.vdm_legal.proofs.Births.{held-number}
+use Rattle.vdm_legal.proofs.Journals.{main_answers}
 use Rattle.vdm_meaning.proofs.Rules.{AsksNumbers, MayAsk, rules}
 use Rattle.vdm_meaning.proofs.Runs.{run_front, legal-for_main, legal-on}
 use Rattle.vdm_meaning.proofs.RunSteps.{IsCut, IsMainSound, cut, last-steps, length-steps, main_outcome, run-answers, run-sound, steps_of}
-use Rattle.vdm_meaning.proofs.Sanity.{IsSane}
-use Rattle.vdm_meaning.proofs.Taken.{IsEntryFor, legal-entry}
+use Rattle.vdm_legal.proofs.Sanity.{IsSane}
+use Rattle.vdm_legal.proofs.Taken.{IsEntryFor, legal-entry}
 
 -- what main asks: what its code needs, or to fail
 abbrev pub IsNeedOrFault : Outcome Flow Question Answer Fault → Question → Type 0

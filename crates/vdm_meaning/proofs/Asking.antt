@@ -15,10 +15,10 @@ use Rattle.run_journal.specs.declared.thread.Thread.TheVariants.{Main}
 use Rattle.run_journal.specs.Made.{entry}
 use Rattle.run_journal.specs.Parts.{object_part}
 use Rattle.plans.specs.Plans.{ask}
-use Rattle.vdm_meaning.specs.State.{state_of}
+use Rattle.vdm_legal.specs.State.{state_of}
 use Rattle.vdm_meaning.specs.Tasks.{Flow, Code}
 use Rattle.vdm_meaning.proofs.Rules.{MayAsk, IsSafe}
-use Rattle.vdm_meaning.proofs.Taken.{IsEntryFor}
+use Rattle.vdm_legal.proofs.Taken.{IsEntryFor}
 
 module _ (spec : SpecTree) (tree : ExprTree) (left : List Entry → Flow → Type 0) (first before : List Entry) (n : ℕ) (then : Answer → Code) where
   -- what follows a known answer, behind its known entry

@@ -22,10 +22,10 @@ use Rattle.vdm_meaning.specs.Calls.{Wanted, a_value, no_value, given, operation_
 use Rattle.vdm_meaning.specs.Tasks.{Env, inside, Flow, gave}
 use Rattle.vdm_meaning.specs.Types.{fits}
 use Rattle.vdm_meaning.proofs.Asking.{safe-ask}
-use Rattle.vdm_meaning.proofs.Births.{IsBorn, born-there}
+use Rattle.vdm_legal.proofs.Births.{IsBorn, born-there}
 use Rattle.vdm_meaning.proofs.Parts.{IsAt, at-later, run-behind, may-fail, safe-expression}
 use Rattle.vdm_meaning.proofs.Rules.{MayRun, IsKnown, GivesNumber, IsSafe}
-use Rattle.vdm_meaning.proofs.Sanity.{IsSane, IsWithin, behind_request, behind_activation, behind_finish, request-sane, act-waits, begun-sane, fin-waits, finished-sane, finished-within}
+use Rattle.vdm_legal.proofs.Sanity.{IsSane, IsWithin, behind_request, behind_activation, behind_finish, request-sane, act-waits, begun-sane, fin-waits, finished-sane, finished-within}
 use Rattle.vdm_meaning.proofs.Types.{fits-number}
 
 -- ---- what the test of a result lets through

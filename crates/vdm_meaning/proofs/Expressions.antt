@@ -18,17 +18,18 @@ use Rattle.run_journal.specs.declared.thread.Thread.TheVariants.{Main}
 use Rattle.run_journal.specs.Made.{entry}
 use Rattle.run_journal.specs.Numbers.{IsNumber, IsNumberSlot}
 use Rattle.vdm_meaning.specs.Calls.{a_value}
-use Rattle.vdm_meaning.specs.Expressions.{value_or_fault, operator_on, right_operand, variable_ref, read_value, read_found, expr_plan}
+use Rattle.vdm_legal.specs.State.{variable_ref}
+use Rattle.vdm_meaning.specs.Expressions.{value_or_fault, operator_on, right_operand, read_value, read_found, expr_plan}
 use Rattle.vdm_meaning.specs.Operators.{applied}
 use Rattle.vdm_meaning.specs.Tasks.{Env, outside, inside, expr_in, Flow, gave}
 use Rattle.vdm_meaning.proofs.Asking.{safe-Read}
-use Rattle.vdm_meaning.proofs.Births.{born-there, variable-holds, held-number}
+use Rattle.vdm_legal.proofs.Births.{born-there, variable-holds, held-number}
 use Rattle.vdm_meaning.proofs.Calls.{safe-call_plan}
 use Rattle.vdm_meaning.proofs.Objects.{safe-new_of, class_named-itself}
 use Rattle.vdm_meaning.proofs.Operators.{applied-number}
 use Rattle.vdm_meaning.proofs.Parts.{IsAt, at-start, at-later, may-fail, gives-known, safe-expression}
 use Rattle.vdm_meaning.proofs.Rules.{GivesNumber, MayRun, MayLeave, IsSafe}
-use Rattle.vdm_meaning.proofs.Sanity.{IsSane, IsQuiet, quiet-sane, quiet-within}
+use Rattle.vdm_legal.proofs.Sanity.{IsSane, IsQuiet, quiet-sane, quiet-within}
 
 read-quiet : (var : VarRef) (slot : Slot) → IsQuiet (deed.Read var slot)
 read-quiet var slot = λ name. (refl, refl, refl)

@@ -17,14 +17,15 @@ use Rattle.plans.specs.Plans.{Outcome, gives, faults, needs}
 use Rattle.plans.specs.Steps.{answers, last}
 use Rattle.vdm_meaning.specs.Faults.{Fault}
 use Rattle.vdm_meaning.specs.Main.{asks, standing_of, main_code}
-use Rattle.vdm_meaning.specs.Order.{IsInOrder}
-use Rattle.vdm_meaning.specs.Runs.{IsRun, decided, finish_of}
+use Rattle.vdm_legal.specs.Order.{IsInOrder}
+use Rattle.vdm_legal.specs.Finishes.{decided, finish_of}
+use Rattle.vdm_meaning.specs.Runs.{IsRun}
 use Rattle.vdm_meaning.specs.Tasks.{Flow}
 use Rattle.vdm_meaning.proofs.AskedQuestions.{has_failed, asked-ready}
-use Rattle.vdm_meaning.proofs.Journals.{main_answers, neither, order-on, undecided-parts}
+use Rattle.vdm_legal.proofs.Journals.{main_answers, neither, order-on, undecided-parts}
 use Rattle.vdm_meaning.proofs.Runs.{run_front, run_on, legal-for_main, run-last}
 use Rattle.vdm_meaning.proofs.RunSteps.{IsMainSound, cut, last-steps, main_outcome, run-sound, steps_of}
-use Rattle.vdm_meaning.proofs.Taken.{ready-answer}
+use Rattle.vdm_legal.proofs.Taken.{ready-answer}
 
 -- main's entry for a failure decides the run
 failure-decides : (fault : RunFault) (exit : Slot) (place : Place) (a : Answer) (e : Entry) → made Main (Fail fault exit place) a ≡ Some e → decided e.thread e.deed ≡ None → ⊥

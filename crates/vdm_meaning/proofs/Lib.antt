@@ -1,12 +1,9 @@
 pub mod AskedQuestions
 pub mod Asking
-pub mod Births
 pub mod Calls
-pub mod Counting
 pub mod Expressions
 pub mod Finishing
 pub mod GoingOn
-pub mod Journals
 pub mod Main
 pub mod Objects
 pub mod OneRun
@@ -15,9 +12,7 @@ pub mod Parts
 pub mod Rules
 pub mod RunSteps
 pub mod Runs
-pub mod Sanity
 pub mod Statements
-pub mod Taken
 pub mod TaskPlans
 pub mod Types
 pub mod WorkedCounter

@@ -17,14 +17,15 @@ use Rattle.run_journal.specs.declared.thread.Thread.TheVariants.{Main}
 use Rattle.run_journal.specs.Made.{entry}
 use Rattle.run_journal.specs.Parts.{is_on, object_part}
 use Rattle.plans.specs.Plans.{finish, ask, part}
-use Rattle.vdm_meaning.specs.Main.{GivesNoObject, end_slot, end_with, whole_expression, make_class_objects, main_plan, classes_of}
-use Rattle.vdm_meaning.specs.Runs.{finish_of}
+use Rattle.vdm_legal.specs.ClassObjects.{classes_of}
+use Rattle.vdm_meaning.specs.Main.{GivesNoObject, end_slot, end_with, whole_expression, make_class_objects, main_plan}
+use Rattle.vdm_legal.specs.Finishes.{finish_of}
 use Rattle.vdm_meaning.specs.Tasks.{outside, Flow, Code}
 use Rattle.vdm_meaning.proofs.Asking.{safe-ask}
-use Rattle.vdm_meaning.proofs.Journals.{undecided-parts}
+use Rattle.vdm_legal.proofs.Journals.{undecided-parts}
 use Rattle.vdm_meaning.proofs.Parts.{IsAt, at-later}
 use Rattle.vdm_meaning.proofs.Rules.{GivesNumber, MayRun, MayBegin, MayLeave, IsSafe}
-use Rattle.vdm_meaning.proofs.Sanity.{IsSane, IsQuiet, sane-start, within-then, quiet-sane, quiet-within}
+use Rattle.vdm_legal.proofs.Sanity.{IsSane, IsQuiet, sane-start, within-then, quiet-sane, quiet-within}
 
 -- the run is finished, whatever came of main
 abbrev pub LeavesAnEnd : List Entry → Flow → Type 0

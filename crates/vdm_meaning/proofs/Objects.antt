@@ -20,10 +20,10 @@ use Rattle.vdm_meaning.specs.Objects.{created, make_object, with_slot, initial_t
 use Rattle.vdm_meaning.specs.Tasks.{outside, Flow, gave, Code}
 use Rattle.vdm_meaning.specs.Types.{all_fit}
 use Rattle.vdm_meaning.proofs.Asking.{safe-New}
-use Rattle.vdm_meaning.proofs.Births.{IsBorn}
+use Rattle.vdm_legal.proofs.Births.{IsBorn}
 use Rattle.vdm_meaning.proofs.Parts.{IsAt, may-fail, safe-if, safe-expression}
 use Rattle.vdm_meaning.proofs.Rules.{IsSafe}
-use Rattle.vdm_meaning.proofs.Sanity.{IsSane, IsQuiet, within-then, quiet-sane, quiet-within}
+use Rattle.vdm_legal.proofs.Sanity.{IsSane, IsQuiet, within-then, quiet-sane, quiet-within}
 use Rattle.vdm_meaning.proofs.Types.{fitting-slots}
 
 -- ---- what a name finds

@@ -13,9 +13,9 @@ use Rattle.run_journal.specs.Numbers.{IsNumber}
 use Rattle.plans.specs.Plans.{part}
 use Rattle.vdm_meaning.specs.Faults.{fault_at}
 use Rattle.vdm_meaning.specs.Tasks.{Env, outside, inside, expr_in, Flow, gave, next, returned, Code, with_value}
-use Rattle.vdm_meaning.proofs.Births.{born-on}
+use Rattle.vdm_legal.proofs.Births.{born-on}
 use Rattle.vdm_meaning.proofs.Rules.{StandsIn, MayRun, IsKnown, GivesKnown, GivesNumber, MayFail, IsSafe}
-use Rattle.vdm_meaning.proofs.Sanity.{IsSane, IsWithin, within-self, within-then, there-on}
+use Rattle.vdm_legal.proofs.Sanity.{IsSane, IsWithin, within-self, within-then, there-on}
 
 -- ---- where a plan stands
 

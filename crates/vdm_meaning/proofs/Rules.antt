@@ -15,11 +15,11 @@ use Rattle.run_journal.specs.Parts.{object_part}
 use Rattle.plans.specs.Steps.{Rules, Safe}
 use Rattle.vdm_meaning.specs.Faults.{Fault}
 use Rattle.vdm_meaning.specs.Main.{GivesNoObject, end_slot}
-use Rattle.vdm_meaning.specs.Ready.{IsReady}
+use Rattle.vdm_legal.specs.Ready.{IsReady}
 use Rattle.vdm_meaning.specs.Tasks.{Env, outside, inside, Task, expr_in, call_in, stmt_in, Flow, gave, Code}
-use Rattle.vdm_meaning.proofs.Births.{IsBorn}
-use Rattle.vdm_meaning.proofs.Sanity.{IsSane, IsWithin}
-use Rattle.vdm_meaning.proofs.Taken.{IsEntryFor}
+use Rattle.vdm_legal.proofs.Births.{IsBorn}
+use Rattle.vdm_legal.proofs.Sanity.{IsSane, IsWithin}
+use Rattle.vdm_legal.proofs.Taken.{IsEntryFor}
 
 -- ---- questions and faults
 

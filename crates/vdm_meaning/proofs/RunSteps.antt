@@ -12,15 +12,16 @@ use Rattle.plans.specs.Steps.{Step, answers, last, Plays, MayHaveAsked, SoundBy}
 use Rattle.plans.proofs.Playing.{plays-same}
 use Rattle.plans.proofs.Sound.{sound}
 use Rattle.vdm_meaning.specs.Faults.{Fault}
-use Rattle.vdm_meaning.specs.Main.{asks, standing_of, main_plan, classes_of}
+use Rattle.vdm_legal.specs.ClassObjects.{classes_of}
+use Rattle.vdm_meaning.specs.Main.{asks, standing_of, main_plan}
 use Rattle.vdm_meaning.specs.Runs.{IsLegal, AreLegal, IsRun}
 use Rattle.vdm_meaning.specs.TaskPlans.{plan_of}
 use Rattle.vdm_meaning.specs.Tasks.{Flow, spent}
-use Rattle.vdm_meaning.proofs.Journals.{main_answers, made-back}
+use Rattle.vdm_legal.proofs.Journals.{main_answers, made-back}
 use Rattle.vdm_meaning.proofs.Main.{LeavesAnEnd, safe-main}
 use Rattle.vdm_meaning.proofs.Rules.{IsTaken, rules}
 use Rattle.vdm_meaning.proofs.Runs.{legal-main, legal-for_main, main_answers-behind}
-use Rattle.vdm_meaning.proofs.Taken.{legal-entry}
+use Rattle.vdm_legal.proofs.Taken.{legal-entry}
 use Rattle.vdm_meaning.proofs.TaskPlans.{tasks-keep}
 
 -- each entry's answer, and the entries with it

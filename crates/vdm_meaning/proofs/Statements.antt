@@ -17,10 +17,10 @@ use Rattle.vdm_meaning.specs.Statements.{written, write_of, write_found, assigne
 use Rattle.vdm_meaning.specs.Tasks.{Env, outside, inside, Flow, gave, returned, Code}
 use Rattle.vdm_meaning.specs.Types.{fits}
 use Rattle.vdm_meaning.proofs.Asking.{safe-ask}
-use Rattle.vdm_meaning.proofs.Births.{born-there}
+use Rattle.vdm_legal.proofs.Births.{born-there}
 use Rattle.vdm_meaning.proofs.Parts.{IsAt, at-later, may-fail, safe-if, safe-expression}
 use Rattle.vdm_meaning.proofs.Rules.{IsSafe}
-use Rattle.vdm_meaning.proofs.Sanity.{IsSane, IsQuiet, within-then, quiet-sane, quiet-within}
+use Rattle.vdm_legal.proofs.Sanity.{IsSane, IsQuiet, within-then, quiet-sane, quiet-within}
 use Rattle.vdm_meaning.proofs.Types.{fits-number}
 
 -- a statement leaves a sane journal, whatever comes of it

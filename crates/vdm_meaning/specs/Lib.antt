@@ -8,9 +8,6 @@ pub mod Expressions
 pub mod Statements
 pub mod TaskPlans
 pub mod Main
-pub mod State
 pub mod Entries
 pub mod Runs
-pub mod Order
-pub mod Ready
 pub mod Worked

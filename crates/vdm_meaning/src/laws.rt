@@ -19,9 +19,10 @@ ghost use Rattle.run_journal.specs.Made.{answer_of};
 ghost use Rattle.run_journal.specs.Numbers.{HasNumbers};
 ghost use Rattle.run_journal.specs.Parts.{thread_part};
 ghost use Rattle.vdm_meaning.specs.Main.{GivesNoObject, asks, over, main_code};
-ghost use Rattle.vdm_meaning.specs.Order.{IsInOrder};
-ghost use Rattle.vdm_meaning.specs.Ready.{IsReady};
-ghost use Rattle.vdm_meaning.specs.Runs.{IsRun, finish_of};
+ghost use Rattle.vdm_legal.specs.Order.{IsInOrder};
+ghost use Rattle.vdm_legal.specs.Ready.{IsReady};
+ghost use Rattle.vdm_legal.specs.Finishes.{finish_of};
+ghost use Rattle.vdm_meaning.specs.Runs.{IsRun};
 ghost use Rattle.vdm_meaning.specs.Worked.{counter_spec, new_counter_three, said, said_first, said_for_the_object, said_for_inc, AreSaid, answers_in, in_spec, in_expr};
 
 /// Each front of a run is a run.

@@ -11,11 +11,11 @@ use Rattle.run_journal.specs.declared.question.Question.TheVariants.{Class, New,
 use Rattle.run_journal.specs.declared.thread.Thread.TheVariants.{Main}
 use Rattle.run_journal.specs.Made.{Fits, entry, made}
 use Rattle.run_journal.specs.Parts.{object_part}
-use Rattle.vdm_meaning.specs.Entries.{IsLegalAtObject}
-use Rattle.vdm_meaning.specs.Order.{IsNumbered, next_number}
-use Rattle.vdm_meaning.specs.Ready.{IsReady}
-use Rattle.vdm_meaning.specs.State.{state_of}
-use Rattle.vdm_meaning.proofs.Journals.{object-fresh}
+use Rattle.vdm_legal.specs.AtObject.{IsLegalAtObject}
+use Rattle.vdm_legal.specs.Order.{IsNumbered, next_number}
+use Rattle.vdm_legal.specs.Ready.{IsReady}
+use Rattle.vdm_legal.specs.State.{state_of}
+use Rattle.vdm_legal.proofs.Journals.{object-fresh}
 
 -- main's legal entry for the question, and the answer that it was made of
 abbrev pub IsEntryFor : SpecTree → List Entry → Question → Answer → Entry → Type 0

@@ -15,9 +15,8 @@ use Rattle.run_journal.specs.declared.entry.Entry.{Entry}
 use Rattle.run_journal.specs.declared.write.Write.{Write as Pair}
 use Rattle.run_journal.specs.Numbers.{IsNumber, IsNumberSlot, IsNumberPair}
 use Rattle.run_journal.specs.Parts.{is_on, object_part}
-use Rattle.vdm_meaning.specs.Expressions.{variable_ref}
-use Rattle.vdm_meaning.specs.State.{is_same_variable, last_of, written_in, written_by, last_written, slot_among, slot_in_class, slot_made, first_slot, state_of}
-use Rattle.vdm_meaning.proofs.Sanity.{KeepsNumbers, IsSane}
+use Rattle.vdm_legal.specs.State.{variable_ref, is_same_variable, last_of, written_in, written_by, last_written, slot_among, slot_in_class, slot_made, first_slot, state_of}
+use Rattle.vdm_legal.proofs.Sanity.{KeepsNumbers, IsSane}
 
 -- the object was made as one of the class, with a slot for each of its variables
 pub record IsBorn (spec : SpecTree) (entries : List Entry) (me : ℕ) (class : ClassTree) : Type 0 where

@@ -12,10 +12,10 @@ use Rattle.run_journal.specs.declared.thread.Thread.TheVariants.{Main}
 use Rattle.run_journal.specs.Made.{entry}
 use Rattle.run_journal.specs.Numbers.{IsNumberSlot, IsNumberPair}
 use Rattle.run_journal.specs.Parts.{is_on, object_part}
-use Rattle.vdm_meaning.specs.Runs.{decided, finish_of}
-use Rattle.vdm_meaning.specs.State.{is_request, is_activation, is_finish}
-use Rattle.vdm_meaning.proofs.Counting.{counted, counted-more, counted-one, adds, adds-none, adds-here}
-use Rattle.vdm_meaning.proofs.Journals.{finish-last}
+use Rattle.vdm_legal.specs.Finishes.{decided, finish_of}
+use Rattle.vdm_legal.specs.State.{is_request, is_activation, is_finish}
+use Rattle.vdm_legal.proofs.Counting.{counted, counted-more, counted-one, adds, adds-none, adds-here}
+use Rattle.vdm_legal.proofs.Journals.{finish-last}
 
 -- what a deed gives a variable is a number or nothing
 abbrev pub KeepsNumbers : Deed → Type 0

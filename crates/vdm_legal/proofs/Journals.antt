@@ -13,8 +13,8 @@ use Rattle.run_journal.specs.declared.answer.Answer.TheVariants.{Done, Object, R
 use Rattle.run_journal.specs.Made.{answer_of, made, question_of}
 use Rattle.run_journal.specs.Parts.{is_by, object_part, thread_part}
 use Rattle.run_journal.specs.Threads.{is_thread}
-use Rattle.vdm_meaning.specs.Order.{IsNumbered, AreNumbered, IsInOrder, above_all, next_number}
-use Rattle.vdm_meaning.specs.Runs.{decided, finish_of, first_of}
+use Rattle.vdm_legal.specs.Order.{IsNumbered, AreNumbered, IsInOrder, above_all, next_number}
+use Rattle.vdm_legal.specs.Finishes.{decided, finish_of, first_of}
 
 -- ---- what an entry was made of
 
