@@ -140,21 +140,26 @@ fn calls(line: &mut Line<'_>, machine: &mut Machine<'_>) {
 
 // Gives the machine an answer, and tells whether it had asked for a call.
 fn is_call_after(line: &mut Line<'_>, machine: &mut Machine<'_>) -> bool {
-    match machine.next(line.alloc()) {
-        Ok(Question::New { .. }) => give(line, machine, Answer::Object(2)),
-        Ok(Question::Req { .. }) => {
-            give(line, machine, Answer::Done);
-            return true;
-        }
-        Ok(_) => give(line, machine, Answer::Done),
-        Err(OutOfMemory) => line.fall_short(),
+    if machine.over() {
+        return false;
     }
-    false
+    let Ok(question) = machine.next(line.alloc()) else {
+        line.fall_short();
+        return false;
+    };
+    if machine
+        .answer(line.alloc(), answer_to(&question))
+        .is_err()
+    {
+        line.fall_short();
+    }
+    matches!(question, Question::Req { .. })
 }
 
-fn give(line: &mut Line<'_>, machine: &mut Machine<'_>, answer: Answer) {
-    if machine.answer(line.alloc(), answer).is_err() {
-        line.fall_short();
+fn answer_to(question: &Question) -> Answer {
+    match question {
+        Question::New { .. } => Answer::Object(2),
+        _ => Answer::Done,
     }
 }
 
