@@ -31,7 +31,10 @@ impl Desk {
         let place = line.spot(Part::Expr);
         let right = self.part(line);
         let left = self.part(line);
-        line.made(Expr::infix(line.alloc(), left, Operator::Plus, right, place), no_tree())
+        line.made(
+            Expr::infix(line.alloc(), left, Operator::Plus, right, place),
+            no_tree(),
+        )
     }
 
     fn application(&mut self, line: &mut Line<'_>) -> Expr {
@@ -47,7 +50,12 @@ impl Desk {
         let class_place = line.spot(Part::Expr);
         let count = line.count();
         let place = line.spot(Part::Expr);
-        Expr::create(class, class_place, line.last_of(&mut self.trees, count), place)
+        Expr::create(
+            class,
+            class_place,
+            line.last_of(&mut self.trees, count),
+            place,
+        )
     }
 
     fn selection(&mut self, line: &mut Line<'_>) -> Expr {
@@ -55,7 +63,10 @@ impl Desk {
         let name_place = line.spot(Part::Expr);
         let place = line.spot(Part::Expr);
         let target = self.part(line);
-        line.made(Expr::select(line.alloc(), target, name, name_place, place), no_tree())
+        line.made(
+            Expr::select(line.alloc(), target, name, name_place, place),
+            no_tree(),
+        )
     }
 }
 

@@ -91,7 +91,10 @@ fn report(desk: &mut Desk, line: &mut Line<'_>) {
     if has_log {
         say_logged(line, &last, &desk.entries, &desk.names);
     } else {
-        say_report(line, report_text(line.alloc(), &desk.entries, false, &last, &desk.names));
+        say_report(
+            line,
+            report_text(line.alloc(), &desk.entries, false, &last, &desk.names),
+        );
     }
 }
 

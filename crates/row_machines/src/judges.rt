@@ -22,7 +22,13 @@ pub(crate) fn answer(desk: &mut Desk, line: &mut Line<'_>, word: &str) {
         if word == "judge" {
             say_judged(line, spec, tree, units, &desk.entries);
         } else {
-            say_run(line, spec, tree, units, &run(line.alloc(), spec, tree, units));
+            say_run(
+                line,
+                spec,
+                tree,
+                units,
+                &run(line.alloc(), spec, tree, units),
+            );
         }
     } else {
         line.refuse();

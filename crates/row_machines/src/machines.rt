@@ -147,10 +147,7 @@ fn is_call_after(line: &mut Line<'_>, machine: &mut Machine<'_>) -> bool {
         line.fall_short();
         return false;
     };
-    if machine
-        .answer(line.alloc(), answer_to(&question))
-        .is_err()
-    {
+    if machine.answer(line.alloc(), answer_to(&question)).is_err() {
         line.fall_short();
     }
     matches!(question, Question::Req { .. })

@@ -24,7 +24,12 @@ pub fn serve<R: Clock, I: io::Read + Drop, O: Write + Drop>(
     out.flush()
 }
 
-fn write_answer<R: Clock, O: Write>(rt: &R, alloc: Global, asked: &str, out: &mut O) -> io::Result<()> {
+fn write_answer<R: Clock, O: Write>(
+    rt: &R,
+    alloc: Global,
+    asked: &str,
+    out: &mut O,
+) -> io::Result<()> {
     let mut line = Line::new(alloc, asked);
     answer(rt, &mut line);
     if line.is_short() {

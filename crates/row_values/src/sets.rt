@@ -52,7 +52,10 @@ fn say_halt(line: &mut Line<'_>, halt: Halt<RunFault>) {
 }
 
 fn inserted(line: &mut Line<'_>, items: ValueList) {
-    let copy = line.made(items.copy(line.alloc()), ValueList::from_vec(Vec::new(line.alloc())));
+    let copy = line.made(
+        items.copy(line.alloc()),
+        ValueList::from_vec(Vec::new(line.alloc())),
+    );
     let plain = plain_of(line, copy.into_vec());
     line.say_count(plain.len());
     let is_same = set_from(line.alloc(), items) == Ok(Value::new(Node::Set(plain)));
@@ -60,7 +63,10 @@ fn inserted(line: &mut Line<'_>, items: ValueList) {
 }
 
 fn inserted_pairs(line: &mut Line<'_>, pairs: PairList) {
-    let copy = line.made(pairs.copy(line.alloc()), PairList::from_vec(Vec::new(line.alloc())));
+    let copy = line.made(
+        pairs.copy(line.alloc()),
+        PairList::from_vec(Vec::new(line.alloc())),
+    );
     let plain = plain_of(line, copy.into_vec());
     line.say_count(plain.len());
     let is_same = map_from(line.alloc(), pairs) == Ok(Value::new(Node::Map(plain)));
