@@ -9,7 +9,8 @@ use Rattle.vdm_tree.specs.declared.expr.Expr.{Expr}
 use Rattle.plans.specs.Plans.{fail}
 use Rattle.vdm_meaning.specs.Faults.{fault_at}
 use Rattle.vdm_meaning.specs.Tasks.{Env, outside, inside}
-use Rattle.vdm_meaning.specs.Calls.{Wanted, call_plan, new_of}
+use Rattle.vdm_meaning.specs.Calls.{Wanted, call_plan}
+use Rattle.vdm_meaning.specs.Objects.{new_of}
 
 -- with arguments it fails
 pub with_arguments : (spec : SpecTree) (env : Env) (head first : ExprTree) (others : ExprTrees) (place : Place) (wanted : Wanted) → fail (fault_at TypeFault place) ≡ call_plan spec env head (one_expr first others) place wanted

@@ -13,7 +13,7 @@ use Rattle.vdm_tree.specs.ClassView.{variable_view}
 use Rattle.vdm_tree.specs.declared.class_def.VarDef.{VarDef}
 use Rattle.plans.specs.Plans.{part}
 use Rattle.vdm_meaning.specs.Tasks.{outside, expr_in, with_value}
-use Rattle.vdm_meaning.specs.Calls.{initialise, initial_then, with_slot, make_object}
+use Rattle.vdm_meaning.specs.Objects.{initialise, initial_then, with_slot, make_object}
 
 drop_from : {A : Type 0} (xs : List A) (n : ℕ) (x : A) → slice_get xs n ≡ Some x → drop n xs ≡ x ∷ drop (n + 1) xs
 drop_from xs n x e = drop_more xs n x (slice_get_within xs n x e) ∙ ap (λ y. y ∷ drop (n + 1) xs) (get_or_from_slice_get xs n x x e)

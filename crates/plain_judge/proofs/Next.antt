@@ -11,8 +11,8 @@ use Rattle.run_journal.specs.Parts.{thread_part}
 use Rattle.vdm_meaning.specs.Entries.{IsLegalForThread}
 use Rattle.vdm_meaning.specs.Main.{Standing, asks, over, main_code}
 use Rattle.vdm_meaning.specs.Runs.{IsLegal}
-use Rattle.vdm_meaning.proofs.Ending.{legal-for_main, main_answers-behind}
-use Rattle.vdm_meaning.proofs.Journals.{main_answers, made-back}
+use Rattle.vdm_meaning.proofs.Runs.{legal-for_main, main_answers-behind}
+use Rattle.vdm_legal.proofs.Journals.{main_answers, made-back}
 use Rattle.plain_judge.specs.Asked.{IsAskedFor, IsNext}
 
 asked-of_main : (standing : Standing) (e : Entry) → IsAskedFor Main standing e → e.thread ≡ Main

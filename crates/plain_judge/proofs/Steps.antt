@@ -11,7 +11,7 @@ use Rattle.journal_entries.specs.Laws.{MadeWhereFits}
 use Rattle.run_journal.specs.Made.{answer_of}
 use Rattle.vdm_meaning.specs.Main.{Standing, main_code}
 use Rattle.vdm_meaning.specs.Runs.{IsLegal, AreLegal, IsRun}
-use Rattle.vdm_meaning.proofs.Journals.{main_answers}
+use Rattle.vdm_legal.proofs.Journals.{main_answers}
 use Rattle.plain_judge.specs.Asked.{IsNext}
 use Rattle.plain_judge.proofs.Next.{asked-answers, next-legal}
 

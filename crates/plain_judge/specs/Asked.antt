@@ -5,7 +5,7 @@ use Rattle.run_journal.specs.declared.entry.Entry.{Entry}
 use Rattle.run_journal.specs.declared.thread.Thread.{Thread}
 use Rattle.run_journal.specs.Made.{answer_of, made}
 use Rattle.run_journal.specs.Parts.{object_part}
-use Rattle.vdm_meaning.specs.Entries.{IsLegalAtObject}
+use Rattle.vdm_legal.specs.AtObject.{IsLegalAtObject}
 use Rattle.vdm_meaning.specs.Main.{Standing, asks, over}
 
 -- the entry is that of the thread for what it asks and the entry's own answer

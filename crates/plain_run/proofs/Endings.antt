@@ -1,12 +1,12 @@
 -- What the last entry decides.
-use Rattle.std.proofs.Common.{◌≡◌, List, [], ◌∷◌, ◌++◌, Option, None, Result, Ok, Err, IfOk, OnErr, refl, sym, ap, ◌∙◌}
+use Rattle.std.proofs.Common.{◌≡◌, List, [], ◌∷◌, ◌++◌, Option, None, Result, Ok, Err, IfOk, OnErr, sym, ap, ◌∙◌}
 use Rattle.std.specs.Option.{option_map}
 use Rattle.vdm_kinds.specs.declared.halt.OutOfMemory.{OutOfMemory}
 use Rattle.run_journal.specs.declared.entry.Entry.{Entry}
-use Rattle.vdm_meaning.specs.Runs.{decided, finish_of}
+use Rattle.vdm_legal.specs.Finishes.{decided, finish_of}
 use Rattle.plain_state.specs.declared.finish.Finish.{Finish}
 use Rattle.plain_state.specs.Finishes.{finishes}
-use Rattle.vdm_meaning.proofs.Journals.{finish-last}
+use Rattle.vdm_legal.proofs.Journals.{finish-last}
 
 last-same : {A : Type 0} (front before : List A) (x last : A) → front ++ x ∷ [] ≡ before ++ last ∷ [] → x ≡ last
 last-same [] [] x last e = cc

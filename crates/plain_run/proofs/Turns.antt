@@ -8,14 +8,15 @@ use Rattle.run_journal.specs.declared.question.Question.{Question}
 use Rattle.run_journal.specs.declared.question.Question.TheVariants.{End, Fail}
 use Rattle.run_journal.specs.declared.thread.Thread.TheVariants.{Main}
 use Rattle.vdm_meaning.specs.Main.{Standing, asks, over, main_code}
-use Rattle.vdm_meaning.specs.Order.{IsInOrder}
-use Rattle.vdm_meaning.specs.Ready.{IsReady}
-use Rattle.vdm_meaning.specs.Runs.{IsRun, finish_of}
+use Rattle.vdm_legal.specs.Order.{IsInOrder}
+use Rattle.vdm_legal.specs.Ready.{IsReady}
+use Rattle.vdm_legal.specs.Finishes.{finish_of}
+use Rattle.vdm_meaning.specs.Runs.{IsRun}
 use Rattle.plain_state.specs.Readiness.{IsReadyFor}
 use Rattle.plain_run.specs.Turns.{GoesOn, IsAnswered, TakesTurn}
 use Rattle.vdm_meaning.proofs.AskedQuestions.{asked-ready}
 use Rattle.vdm_meaning.proofs.GoingOn.{still_asks}
-use Rattle.vdm_meaning.proofs.Journals.{main_answers, answers-more, order-on}
+use Rattle.vdm_legal.proofs.Journals.{main_answers, answers-more, order-on}
 use Rattle.vdm_meaning.proofs.Runs.{run_on}
 
 -- what the meaning lets main ask is ready for it

@@ -10,8 +10,9 @@ use Rattle.run_journal.specs.declared.thread.Thread.TheVariants.{Main}
 use Rattle.run_journal.specs.Made.{answer_of}
 use Rattle.run_journal.specs.Parts.{thread_part}
 use Rattle.vdm_meaning.specs.Main.{Standing, asks, main_code}
-use Rattle.vdm_meaning.specs.Order.{IsInOrder}
-use Rattle.vdm_meaning.specs.Runs.{IsRun, finish_of}
+use Rattle.vdm_legal.specs.Order.{IsInOrder}
+use Rattle.vdm_legal.specs.Finishes.{finish_of}
+use Rattle.vdm_meaning.specs.Runs.{IsRun}
 use Rattle.plain_state.specs.Entered.{IsEntered}
 
 -- What a thread asks that stands so was answered, and the entry came behind those before it.

@@ -13,13 +13,13 @@ use Rattle.run_journal.specs.declared.thread.Thread.{Thread}
 use Rattle.run_journal.specs.Made.{entry, made, Fits}
 use Rattle.run_journal.specs.Parts.{object_part}
 use Rattle.run_journal.specs.Threads.{own_object}
-use Rattle.vdm_meaning.specs.Entries.{IsLegalAtObject}
-use Rattle.vdm_meaning.specs.Order.{IsNumbered, next_number}
-use Rattle.vdm_meaning.specs.Ready.{IsReady}
-use Rattle.vdm_meaning.specs.State.{state_of}
+use Rattle.vdm_legal.specs.AtObject.{IsLegalAtObject}
+use Rattle.vdm_legal.specs.Order.{IsNumbered, next_number}
+use Rattle.vdm_legal.specs.Ready.{IsReady}
+use Rattle.vdm_legal.specs.State.{state_of}
 use Rattle.plain_state.specs.Entered.{HasNothingToTell, IsEntered}
 use Rattle.plain_state.specs.Readiness.{IsReadyFor}
-use Rattle.vdm_meaning.proofs.Journals.{object-fresh}
+use Rattle.vdm_legal.proofs.Journals.{object-fresh}
 
 module _ (spec : SpecTree) (thread : Thread) (before : List Entry) where
   record IsDue (e : Entry) : Type 0 where

@@ -6,7 +6,7 @@ use Rattle.abstract_syntax.specs.Values.{ValueTree}
 use Rattle.run_journal.specs.declared.entry.Entry.{Entry}
 use Rattle.run_journal.specs.declared.write.Write.{Write as Pair}
 use Rattle.run_journal.specs.Parts.{is_on, object_part}
-use Rattle.vdm_meaning.specs.State.{is_same_variable, last_of, last_written, written_by, written_in}
+use Rattle.vdm_legal.specs.State.{is_same_variable, last_of, last_written, written_by, written_in}
 
 last_of-last_of : {A : Type 0} (a b c : Option A) → last_of a (last_of b c) ≡ last_of (last_of a b) c
 last_of-last_of a b None = refl

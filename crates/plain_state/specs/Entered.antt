@@ -8,8 +8,8 @@ use Rattle.run_journal.specs.declared.question.Question.TheVariants.{New, Read}
 use Rattle.run_journal.specs.declared.thread.Thread.{Thread}
 use Rattle.run_journal.specs.Made.{made, Fits}
 use Rattle.run_journal.specs.Parts.{object_part}
-use Rattle.vdm_meaning.specs.Entries.{IsLegalAtObject}
-use Rattle.vdm_meaning.specs.Order.{IsNumbered}
+use Rattle.vdm_legal.specs.AtObject.{IsLegalAtObject}
+use Rattle.vdm_legal.specs.Order.{IsNumbered}
 use Rattle.plain_state.specs.declared.store.Store.{Store}
 
 -- the entries that were made

@@ -2,7 +2,7 @@
 use Rattle.std.specs.Prelude.{Bool}
 use Rattle.vdm_kinds.specs.declared.name.Name.{Name}
 use Rattle.run_journal.specs.declared.deed.Deed.{Deed}
-use Rattle.vdm_meaning.specs.State.{is_activation, is_finish, is_request}
+use Rattle.vdm_legal.specs.State.{is_activation, is_finish, is_request}
 use Rattle.plain_state.specs.declared.calls.Phase.{Phase}
 use Rattle.plain_state.specs.declared.calls.Phase.TheVariants.{Requested, Activated, Finished}
 

@@ -7,7 +7,7 @@ use Rattle.run_journal.specs.declared.question.Question.TheVariants.{End, Fail}
 use Rattle.run_journal.specs.declared.thread.Thread.{Thread}
 use Rattle.run_journal.specs.Parts.{object_part}
 use Rattle.run_journal.specs.Threads.{own_object}
-use Rattle.vdm_meaning.specs.Ready.{IsReady}
+use Rattle.vdm_legal.specs.Ready.{IsReady}
 
 -- One that the meaning lets main ask there; but what ends the thread stands on the thread's own object, which is there.
 abbrev pub IsReadyFor : SpecTree → Thread → List Entry → Question → Type 0

@@ -2,7 +2,7 @@
 
 ghost use Rattle.std.specs.Prelude.{◌≡◌, ◌<◌, ◌↔◌, [], length, IsTrue};
 ghost use Rattle.run_journal.specs.Parts.{object_part};
-ghost use Rattle.vdm_meaning.specs.State.{activations, count_of, finishes, is_activation, is_finish, is_request, requests};
+ghost use Rattle.vdm_legal.specs.State.{activations, count_of, finishes, is_activation, is_finish, is_request, requests};
 ghost use Rattle.plain_state.specs.Phases.{tells};
 
 use run_journal::{Deed, Entry};

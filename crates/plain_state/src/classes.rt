@@ -1,7 +1,7 @@
 // The classes whose class objects main makes.
 
 ghost use Rattle.std.specs.Prelude.{◌≡◌, slice_get};
-ghost use Rattle.vdm_meaning.specs.Main.{classes_of};
+ghost use Rattle.vdm_legal.specs.ClassObjects.{classes_of};
 ghost use Rattle.vdm_tree.specs.ClassView.{spec_view};
 
 use vdm_kinds::Name;

@@ -3,7 +3,7 @@
 ghost use Rattle.std.specs.Prelude.{◌≡◌, IfOk};
 ghost use Rattle.std.specs.Option.{option_map};
 ghost use Rattle.plain_state.specs.Finishes.{finishes};
-ghost use Rattle.vdm_meaning.specs.Runs.{decided, finish_of};
+ghost use Rattle.vdm_legal.specs.Finishes.{decided, finish_of};
 
 use run_journal::{Deed, Entry, EntryList, Thread};
 use std::alloc::Global;

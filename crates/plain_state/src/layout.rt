@@ -3,7 +3,7 @@
 ghost use Rattle.std.specs.Prelude.{◌≡◌, option_copied, option_map};
 ghost use Rattle.run_journal.specs.Parts.{object_part};
 ghost use Rattle.abstract_syntax.specs.Classes.{class_named, class_variables};
-ghost use Rattle.vdm_meaning.specs.State.{first_slot, slot_among, slot_made};
+ghost use Rattle.vdm_legal.specs.State.{first_slot, slot_among, slot_made};
 ghost use Rattle.vdm_tree.specs.ClassView.{class_view, spec_view};
 
 use crate::writes::is_same_variable;

@@ -2,7 +2,8 @@
 
 ghost use Rattle.std.specs.Prelude.{◌≢◌, ◌↔◌, [], IsTrue};
 ghost use Rattle.run_journal.specs.Parts.{object_part};
-ghost use Rattle.vdm_meaning.specs.Entries.{IsAboveClassObjects, IsClassObject, IsLegalAtObject};
+ghost use Rattle.vdm_legal.specs.ClassObjects.{IsAboveClassObjects, IsClassObject};
+ghost use Rattle.vdm_legal.specs.AtObject.{IsLegalAtObject};
 ghost use Rattle.vdm_tree.specs.ClassView.{spec_view};
 
 use crate::calls::{is_active, is_untouched, is_waiting};

@@ -1,7 +1,7 @@
 // The order of one lane, in which new objects are numbered one after another.
 
 ghost use Rattle.std.specs.Prelude.{◌≡◌, ◌↔◌, IsTrue};
-ghost use Rattle.vdm_meaning.specs.Order.{IsInOrder, IsNumbered, above_all, next_number};
+ghost use Rattle.vdm_legal.specs.Order.{IsInOrder, IsNumbered, above_all, next_number};
 ghost use Rattle.vdm_tree.specs.ClassView.{spec_view};
 
 use run_journal::{Deed, Entry, EntryList};

@@ -2,9 +2,9 @@
 
 ghost use Rattle.std.specs.Prelude.{◌≡◌, ◌≢◌, ◌<◌, ◌↔◌, [], IsTrue};
 ghost use Rattle.run_journal.specs.Parts.{object_part};
-ghost use Rattle.vdm_meaning.specs.Entries.{IsClassObject};
-ghost use Rattle.vdm_meaning.specs.Ready.{IsReady};
-ghost use Rattle.vdm_meaning.specs.State.{activations, finishes, requests};
+ghost use Rattle.vdm_legal.specs.ClassObjects.{IsClassObject};
+ghost use Rattle.vdm_legal.specs.Ready.{IsReady};
+ghost use Rattle.vdm_legal.specs.State.{activations, finishes, requests};
 ghost use Rattle.vdm_tree.specs.ClassView.{spec_view};
 ghost use Rattle.plain_state.specs.Readiness.{IsReadyFor};
 

@@ -3,7 +3,7 @@
 ghost use Rattle.std.specs.Prelude.{◌≡◌, ◌↔◌, IfOk, IsTrue, Some, option_map};
 ghost use Rattle.run_journal.specs.Parts.{object_part};
 ghost use Rattle.vdm_values.specs.declared.slot.Slot.{Slot as SlotView};
-ghost use Rattle.vdm_meaning.specs.State.{state_of};
+ghost use Rattle.vdm_legal.specs.State.{state_of};
 ghost use Rattle.vdm_tree.specs.ClassView.{spec_view};
 ghost use Rattle.plain_state.specs.Holdings.{held_slot};
 

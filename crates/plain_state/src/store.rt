@@ -1,7 +1,7 @@
 // The list of entries of a run, from which its questions are answered.
 
 ghost use Rattle.std.specs.Prelude.{◌≡◌};
-ghost use Rattle.vdm_meaning.specs.Order.{above_all};
+ghost use Rattle.vdm_legal.specs.Order.{above_all};
 
 use crate::state::state_of;
 use journal_entries::entry_made;
@@ -77,8 +77,8 @@ impl Store {
 
 impl Store {
     ghost use Rattle.std.specs.Prelude.{◌≡◌, [], ◌∷◌, ◌++◌, IfOk, OnErr, OnOk};
-    ghost use Rattle.vdm_meaning.specs.Order.{next_number};
-    ghost use Rattle.vdm_meaning.specs.Ready.{IsReady};
+    ghost use Rattle.vdm_legal.specs.Order.{next_number};
+    ghost use Rattle.vdm_legal.specs.Ready.{IsReady};
     ghost use Rattle.vdm_tree.specs.ClassView.{spec_view};
     ghost use Rattle.plain_state.specs.Entered.{HasNothingToTell, IsEntered, journal};
     ghost use Rattle.plain_state.specs.Readiness.{IsReadyFor};

@@ -2,7 +2,7 @@
 
 ghost use Rattle.std.specs.Prelude.{◌≡◌, option_copied};
 ghost use Rattle.run_journal.specs.Parts.{object_part};
-ghost use Rattle.vdm_meaning.specs.State.{is_same_variable, last_written, written_by, written_in};
+ghost use Rattle.vdm_legal.specs.State.{is_same_variable, last_written, written_by, written_in};
 
 use run_journal::{Deed, Entry, Write};
 use vdm_kinds::VarRef;

@@ -46,6 +46,3 @@ equation = record { spends = meaning-zero; follows = meaning-suc }
 
 pub levels-never-matter : {T R Q A F : Type 0} → LevelsNeverMatter T R Q A F
 levels-never-matter = levels
-
--- how a task is read: by its plan, or as spent
-pub ruleset task_steps = (meaning-suc, meaning-zero)

@@ -1,6 +1,8 @@
 pub mod Adding
+pub mod Asking
 pub mod Binding
 pub mod Bound
+pub mod Free
 pub mod Levels
 pub mod Playing
 pub mod Sound

@@ -8,7 +8,7 @@ pub answers-behind : {A H : Type 0} (taken more : List (Step A H)) → answers (
 answers-behind [] more = refl
 answers-behind (step ∷ taken) more = ap (λ bs. step.0 ∷ bs) (answers-behind taken more)
 
-module _ {T R Q A F H : Type 0} (rules : Rules T R Q A H) where
+module _ {T R Q A F H : Type 0} (rules : Rules T R Q A F H) where
   -- what is played for an outcome and what follows it is played for the outcome
   pub plays-first : (f : List A → Outcome R Q A F) (next : R → List A → ℕ → Outcome R Q A F) (h : H) (steps : List (Step A H)) → Plays rules (λ bs. onward (f bs) next) h steps → Plays rules f h steps
   plays-first f next h [] plays = tt

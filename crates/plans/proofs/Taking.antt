@@ -1,5 +1,5 @@
 -- A task takes answers from the front and units, and gives none back.
-use Rattle.std.proofs.Common.{◌≡◌, ℕ, zero, suc, ◌≤◌, List, [], ◌∷◌, ◌++◌, refl, sym, ap, ◌∙◌, append_assoc, arith}
+use Rattle.std.proofs.Common.{ℕ, zero, suc, ◌≤◌, List, [], ◌∷◌, ◌++◌, refl, sym, ap, ◌∙◌, append_assoc, arith}
 use Rattle.plans.specs.Plans.{Plan, Outcome, finish, fail, ask, part, become, gives, faults, needs, onward, run, go, meaning, IsEnd, Leaves}
 use Rattle.plans.specs.Laws.{OnlyTakes}
 
@@ -40,13 +40,6 @@ module _ {T R Q A F : Type 0} (plan : T → Plan T R Q A F) (spent : T → F) wh
 
   pub plan-leaves : (p : Plan T R Q A F) (bs : List A) (u : ℕ) → Leaves bs u (run (meaning plan spent) p bs u)
   plan-leaves p bs u = run-leaves (meaning plan spent) meaning-leaves p bs u
-
-  -- the same where a result is known
-  pub meaning-gives : (t : T) (bs : List A) (u : ℕ) {r : R} {left : List A} {v : ℕ} → meaning plan spent t bs u ≡ gives r left v → IsEnd left bs × (v ≤ u)
-  meaning-gives t bs u e = rw e at (meaning-leaves t bs u)
-
-  pub task-gives : (t : T) (bs : List A) (u : ℕ) {r : R} {left : List A} {v : ℕ} → meaning plan spent t bs (suc u) ≡ gives r left v → IsEnd left bs × (v ≤ u)
-  task-gives t bs u e = rw e at (task-leaves t bs u)
 
 pub only-takes : {T R Q A F : Type 0} → OnlyTakes T R Q A F
 only-takes = record { tasks = task-leaves; plans = plan-leaves }

@@ -9,7 +9,8 @@ pub data Plan (T R Q A F : Type 0) : Type 0 where
   part : T → (R → Plan T R Q A F) → Plan T R Q A F
   become : T → Plan T R Q A F
 
--- `gives`: the result, the answers left and the units left; `faults`: the fault and the answers left; `needs`: the question with no answer left
+-- `gives`: the result, the answers left and the units left; `faults`: the fault and the answers left; `needs`: the question
+-- with no answer left
 pub data Outcome (R Q A F : Type 0) : Type 0 where
   gives : R → List A → ℕ → Outcome R Q A F
   faults : F → List A → Outcome R Q A F
@@ -22,7 +23,10 @@ onward (faults f bs) next = faults f bs
 onward (needs q) next = needs q
 
 -- what a plan comes to, where `means` says what a task comes to
-abbrev pub run : {T R Q A F : Type 0} → (T → List A → ℕ → Outcome R Q A F) → Plan T R Q A F → List A → ℕ → Outcome R Q A F
+abbrev pub run : {T R Q A F : Type 0}
+    → (T → List A → ℕ → Outcome R Q A F)
+    → Plan T R Q A F
+    → List A → ℕ → Outcome R Q A F
 run means (finish r) bs u = gives r bs u
 run means (fail f) bs u = faults f bs
 run means (ask q then) [] u = needs q
@@ -31,7 +35,10 @@ run means (part t then) bs u = onward (means t bs u) (λ r. run means (then r))
 run means (become t) bs u = means t bs u
 
 -- at most n levels deep: each task takes a unit and follows its plan, and where no unit is left it is the fault `spent` of it
-abbrev pub go : {T R Q A F : Type 0} → (T → Plan T R Q A F) → (T → F) → ℕ → T → List A → ℕ → Outcome R Q A F
+abbrev pub go : {T R Q A F : Type 0}
+    → (T → Plan T R Q A F)
+    → (T → F)
+    → ℕ → T → List A → ℕ → Outcome R Q A F
 go plan spent zero t bs u = faults (spent t) bs
 go plan spent (suc n) t bs zero = faults (spent t) bs
 go plan spent (suc n) t bs (suc u) = run (go plan spent n) (plan t) bs u
@@ -64,8 +71,11 @@ Outlasts more (gives r left v) longer = longer ≡ gives r (left ++ more) v
 Outlasts more (faults f left) longer = longer ≡ faults f (left ++ more)
 Outlasts more (needs q) longer = Unit {0}
 
--- `f` says what answers come to: an outcome that was reached with `bs` took some of them from the front, and `f` takes these whatever stands behind
+-- `f` says what answers come to: an outcome that was reached with `bs` took some of them from the front, and `f` takes these
+-- whatever stands behind
 abbrev pub TakesFrom : {R Q A F : Type 0} → (List A → Outcome R Q A F) → List A → Outcome R Q A F → Type 0
-TakesFrom {A = A} f bs (gives r left v) = (taken : List A) × (bs ≡ taken ++ left) × ((more : List A) → f (taken ++ more) ≡ gives r more v)
-TakesFrom {A = A} f bs (faults fault left) = (taken : List A) × (bs ≡ taken ++ left) × ((more : List A) → f (taken ++ more) ≡ faults fault more)
+TakesFrom {A = A} f bs (gives r left v) =
+    (taken : List A) × (bs ≡ taken ++ left) × ((more : List A) → f (taken ++ more) ≡ gives r more v)
+TakesFrom {A = A} f bs (faults fault left) =
+    (taken : List A) × (bs ≡ taken ++ left) × ((more : List A) → f (taken ++ more) ≡ faults fault more)
 TakesFrom f bs (needs q) = Unit {0}

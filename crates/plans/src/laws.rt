@@ -37,7 +37,7 @@ pub fn questions_are_bounded<T, R, Q, A, F>()
     ensures { QuestionsAreBounded T R Q A F }
 {}
 
-/// Where the plans of tasks keep the rules of histories, each plan that keeps them is sound.
-pub fn steps_are_sound<T, R, Q, A, F, H, K: HistoryRules<T, R, Q, A, H>>()
-    ensures { StepsAreSound F K.rules K.left }
+/// Where the tasks keep the rules of histories, each plan that keeps them is sound, and asks few questions.
+pub fn steps_are_sound<T, R, Q, A, F, H, K: HistoryRules<T, R, Q, A, F, H>>()
+    ensures { StepsAreSound K.rules K.left }
 {}

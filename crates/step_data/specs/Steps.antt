@@ -13,7 +13,8 @@ use Rattle.run_journal.specs.declared.question.Question.TheVariants as question
 use Rattle.plans.specs.Plans.{finish, fail, ask, part}
 use Rattle.vdm_meaning.specs.Faults.{fault_at}
 use Rattle.vdm_meaning.specs.Tasks.{Flow as MeantFlow, Code, with_value}
-use Rattle.vdm_meaning.specs.Calls.{call_on, ended, given, activated, operation_ref, created, initialise, with_slot}
+use Rattle.vdm_meaning.specs.Calls.{call_on, ended, given, activated, operation_ref}
+use Rattle.vdm_meaning.specs.Objects.{created, initialise, with_slot}
 use Rattle.vdm_meaning.specs.Expressions.{right_operand, operator_on, read_value}
 use Rattle.vdm_meaning.specs.Statements.{assigned, return_value, called, unless_returned, sequence, written}
 use Rattle.vdm_meaning.specs.Main.{end_slot, end_with, whole_expression, make_class_objects}

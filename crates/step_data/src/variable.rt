@@ -2,7 +2,7 @@
 
 ghost use Rattle.std.specs.Prelude.{◌≡◌};
 ghost use Rattle.class_table.specs.Tables.{class_of};
-ghost use Rattle.vdm_meaning.specs.Expressions.{variable_ref};
+ghost use Rattle.vdm_legal.specs.State.{variable_ref};
 ghost use Rattle.vdm_tree.specs.ClassView.{variable_view};
 
 use class_table::Members;

@@ -8,8 +8,9 @@ use Rattle.vdm_kinds.specs.declared.spec_fault.SpecFault.{SpecFault}
 use Rattle.vdm_grammar.specs.Texts.{IsAccepted, IsFirstRefusal}
 use Rattle.vdm_grammar.proofs.Refusals.{one_accepted, not_both}
 use Rattle.vdm_meaning.specs.Main.{step_limit}
-use Rattle.vdm_meaning.specs.Order.{IsInOrder}
-use Rattle.vdm_meaning.specs.Runs.{IsRun, finish_of}
+use Rattle.vdm_legal.specs.Order.{IsInOrder}
+use Rattle.vdm_legal.specs.Finishes.{finish_of}
+use Rattle.vdm_meaning.specs.Runs.{IsRun}
 use Rattle.report_texts.specs.Words.{IsNoCommand}
 use Rattle.vdm_report.specs.declared.end.End.{End}
 use Rattle.vdm_report.specs.declared.end.End.TheVariants.{Ended, Refused, Usage, Failed, ReadFault, WriteFault, OutOfMemory}

@@ -18,8 +18,9 @@ use Rattle.vdm_kinds.specs.declared.part.Part.TheVariants.{Expr}
 use Rattle.vdm_kinds.specs.declared.spec_fault.SpecFault.{SpecFault}
 use Rattle.vdm_grammar.specs.Texts.{IsSpecification, HasNoTree, IsAccepted, IsFirstRefusal, syntax_fault}
 use Rattle.vdm_meaning.specs.Main.{GivesNoObject, step_limit}
-use Rattle.vdm_meaning.specs.Order.{IsInOrder}
-use Rattle.vdm_meaning.specs.Runs.{IsRun, Finish, ended, failed, decided, first_of, finish_of}
+use Rattle.vdm_legal.specs.Order.{IsInOrder}
+use Rattle.vdm_legal.specs.Finishes.{Finish, ended, failed, decided, first_of, finish_of}
+use Rattle.vdm_meaning.specs.Runs.{IsRun}
 use Rattle.vdm_tree.specs.declared.class_def.ClassDef.{ClassDef}
 use Rattle.vdm_tree.specs.ClassView.{class_view}
 use Rattle.report_texts.specs.Log.{HasLogLine}

@@ -71,7 +71,7 @@ pub record Takes (call : Call) (told : List ℕ) : Type 0 where
   pub few : length taken ≤ spec_limit + 1
   pub turns : call.reads_after ≤ call.reads_before + length taken + 1
 
--- Reading: what is taken, in how many reads; also of a source that tells nothing at most one read a byte up to one past the
+-- Reading: what is taken, and in how many reads. Of any source there are at most as many reads as bytes up to one past the
 -- limit.
 pub record KeepsReading (call : Call) : Type 0 where
   pub told : (told : List ℕ)

@@ -5,8 +5,9 @@ use Rattle.abstract_syntax.specs.Expressions.{ExprTree}
 use Rattle.run_journal.specs.declared.entry.Entry.{Entry}
 use Rattle.vdm_grammar.specs.Texts.{IsAccepted, IsFirstRefusal, spec_limit}
 use Rattle.vdm_meaning.specs.Main.{step_limit}
-use Rattle.vdm_meaning.specs.Order.{IsInOrder}
-use Rattle.vdm_meaning.specs.Runs.{Finish, ended, failed, IsRun, finish_of}
+use Rattle.vdm_legal.specs.Order.{IsInOrder}
+use Rattle.vdm_legal.specs.Finishes.{Finish, ended, failed, finish_of}
+use Rattle.vdm_meaning.specs.Runs.{IsRun}
 use Rattle.vdm_outside.specs.Reading.{AreFirst, TakesAtMost}
 use Rattle.report_texts.specs.Words.{IsRunCommand, IsNoCommand}
 use Rattle.vdm_report.specs.Outside.{Outside, IsCalm, IsFaulty, IsUntouched}

@@ -5,8 +5,9 @@ use Rattle.abstract_syntax.specs.Classes.{SpecTree}
 use Rattle.abstract_syntax.specs.Expressions.{ExprTree}
 use Rattle.run_journal.specs.declared.entry.Entry.{Entry}
 use Rattle.vdm_meaning.specs.Main.{step_limit}
-use Rattle.vdm_meaning.specs.Order.{IsInOrder}
-use Rattle.vdm_meaning.specs.Runs.{IsRun, finish_of}
+use Rattle.vdm_legal.specs.Order.{IsInOrder}
+use Rattle.vdm_legal.specs.Finishes.{finish_of}
+use Rattle.vdm_meaning.specs.Runs.{IsRun}
 use Rattle.report_texts.specs.Log.{HasLogLine}
 use Rattle.vdm_report.specs.declared.end.End.{End}
 use Rattle.vdm_report.specs.declared.end.End.TheVariants.{Ended, Failed, OutOfMemory}

@@ -4,7 +4,7 @@ ghost use Rattle.std.specs.Prelude.{◌≡◌, ◌≤◌, List, length, Some, If
 ghost use Rattle.std.specs.List.{AllByRecursion as Each};
 ghost use Rattle.vdm_grammar.specs.Grammar.{IsExpression};
 ghost use Rattle.run_journal.specs.declared.entry.Entry.{Entry};
-ghost use Rattle.vdm_meaning.specs.Runs.{finish_of};
+ghost use Rattle.vdm_legal.specs.Finishes.{finish_of};
 ghost use Rattle.report_texts.specs.Log.{HasLogLine};
 ghost use Rattle.vdm_tree.specs.ClassView.{spec_view};
 ghost use Rattle.vdm_tree.specs.View.{view_of};

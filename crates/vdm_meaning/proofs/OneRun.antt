@@ -6,11 +6,12 @@ use Rattle.abstract_syntax.specs.Expressions.{ExprTree}
 use Rattle.run_journal.specs.declared.entry.Entry.{Entry}
 use Rattle.run_journal.specs.declared.thread.Thread.TheVariants.{Main}
 use Rattle.run_journal.specs.Made.{made}
-use Rattle.vdm_meaning.specs.Order.{IsNumbered, AreNumbered, IsInOrder}
-use Rattle.vdm_meaning.specs.Runs.{IsLegal, AreLegal, IsRun, Finish, finish_of}
-use Rattle.vdm_meaning.proofs.Answering.{one_entry}
-use Rattle.vdm_meaning.proofs.Ending.{asked-unfinished, legal-for_main, run-last}
-use Rattle.vdm_meaning.proofs.Runs.{run_front}
+use Rattle.vdm_legal.specs.Order.{IsNumbered, AreNumbered, IsInOrder}
+use Rattle.vdm_legal.specs.Finishes.{Finish, finish_of}
+use Rattle.vdm_meaning.specs.Runs.{IsLegal, AreLegal, IsRun}
+use Rattle.vdm_meaning.proofs.AskedQuestions.{asked-unfinished}
+use Rattle.vdm_meaning.proofs.Runs.{run_front, legal-for_main, run-last}
+use Rattle.vdm_legal.proofs.Taken.{legal-entry, one-entry}
 
 -- one of the lists is a front of the other
 abbrev pub IsFrontEitherWay : List Entry → List Entry → Type 0
@@ -37,7 +38,8 @@ module _ (spec : SpecTree) (tree : ExprTree) (units : ℕ) where
       let asked = first.asked in
       let also_asked = second.asked in
       let same : second.question ≡ first.question = cc in
-      one_entry spec before first.question first.answer second.answer x y first.made_of (subst (λ q. made Main q second.answer ≡ Some y) same second.made_of) hx.at_object hy.at_object nx ny
+      let also_made = subst (λ q. made Main q second.answer ≡ Some y) same second.made_of in
+      one-entry spec before first.question first.answer second.answer x y (legal-entry spec before first.question first.answer x first.made_of hx.at_object) (legal-entry spec before first.question second.answer y also_made hy.at_object) nx ny
 
   fronts : (before a b : List Entry) → AreLegal spec tree units before a → AreLegal spec tree units before b → AreNumbered spec before a → AreNumbered spec before b → IsFrontEitherWay a b
   fronts before [] b ha hb na nb = inl (b, refl)

@@ -1,5 +1,5 @@
--- A run as steps of main's code, and what main comes to behind a run.
-use Rattle.std.proofs.Common.{◌≡◌, ℕ, List, [], ◌∷◌, ◌++◌, Some, refl, sym, ap, ◌∙◌, subst, append_assoc, append-nil}
+-- A run as steps of main's code: what main comes to behind a run is sound.
+use Rattle.std.proofs.Common.{◌≡◌, ℕ, suc, List, [], ◌∷◌, ◌++◌, length, Some, refl, sym, ap, ◌∙◌, subst, append_assoc, append-nil}
 use Rattle.abstract_syntax.specs.Classes.{SpecTree}
 use Rattle.abstract_syntax.specs.Expressions.{ExprTree}
 use Rattle.run_journal.specs.declared.answer.Answer.{Answer}
@@ -8,19 +8,21 @@ use Rattle.run_journal.specs.declared.question.Question.{Question}
 use Rattle.run_journal.specs.declared.thread.Thread.TheVariants.{Main}
 use Rattle.run_journal.specs.Made.{answer_of, made}
 use Rattle.plans.specs.Plans.{Outcome, needs, run, meaning}
-use Rattle.plans.specs.Steps.{Step, answers, last, Plays, SoundBy}
+use Rattle.plans.specs.Steps.{Step, answers, last, Plays, MayHaveAsked, SoundBy}
 use Rattle.plans.proofs.Playing.{plays-same}
 use Rattle.plans.proofs.Sound.{sound}
 use Rattle.vdm_meaning.specs.Faults.{Fault}
+use Rattle.vdm_legal.specs.ClassObjects.{classes_of}
 use Rattle.vdm_meaning.specs.Main.{asks, standing_of, main_plan}
 use Rattle.vdm_meaning.specs.Runs.{IsLegal, AreLegal, IsRun}
 use Rattle.vdm_meaning.specs.TaskPlans.{plan_of}
 use Rattle.vdm_meaning.specs.Tasks.{Flow, spent}
-use Rattle.vdm_meaning.proofs.Ending.{legal-main, legal-for_main, main_answers-behind}
-use Rattle.vdm_meaning.proofs.JournalRules.{IsTaken, rules}
-use Rattle.vdm_meaning.proofs.Journals.{main_answers, made-back}
-use Rattle.vdm_meaning.proofs.SafeMain.{LeavesAnEnd, safe-main}
-use Rattle.vdm_meaning.proofs.SafeTasks.{safe-task}
+use Rattle.vdm_legal.proofs.Journals.{main_answers, made-back}
+use Rattle.vdm_meaning.proofs.Main.{LeavesAnEnd, safe-main}
+use Rattle.vdm_meaning.proofs.Rules.{IsTaken, rules}
+use Rattle.vdm_meaning.proofs.Runs.{legal-main, legal-for_main, main_answers-behind}
+use Rattle.vdm_legal.proofs.Taken.{legal-entry}
+use Rattle.vdm_meaning.proofs.TaskPlans.{tasks-keep}
 
 -- each entry's answer, and the entries with it
 abbrev pub steps_of : List Entry → List Entry → List (Step Answer (List Entry))
@@ -31,9 +33,47 @@ pub last-steps : (before entries : List Entry) → last before (steps_of before 
 last-steps before [] = sym (append-nil before)
 last-steps before (e ∷ entries) = last-steps (before ++ e ∷ []) entries ∙ append_assoc before (e ∷ []) entries
 
+pub length-steps : (before entries : List Entry) → length (steps_of before entries) ≡ length entries
+length-steps before [] = refl
+length-steps before (e ∷ entries) = ap (λ n. suc n) (length-steps (before ++ e ∷ []) entries)
+
+-- ---- the steps cut in two
+
+-- the entries of the steps that stand first, and of those behind them
+pub record IsCut (before entries : List Entry) (taken more : List (Step Answer (List Entry))) : Type 0 where
+  pub front : List Entry
+  pub rest : List Entry
+  pub all : entries ≡ front ++ rest
+  pub first : taken ≡ steps_of before front
+  pub behind : more ≡ steps_of (before ++ front) rest
+
+both-parts : {X : Type 0} (x y : X) (xs ys : List X) → x ∷ xs ≡ y ∷ ys → (x ≡ y) × (xs ≡ ys)
+both-parts x y xs ys e = (cc, cc)
+
+pub cut : (before entries : List Entry) (taken more : List (Step Answer (List Entry))) → steps_of before entries ≡ taken ++ more → IsCut before entries taken more
+cut before entries [] more e = record { front = []; rest = entries; all = refl; first = refl; behind = sym e ∙ ap (λ b. steps_of b entries) (sym (append-nil before)) }
+cut before [] (step ∷ taken) more e = absurd (cc)
+cut before (x ∷ entries) (step ∷ taken) more e =
+    let both = both-parts (answer_of x, before ++ x ∷ []) step (steps_of (before ++ x ∷ []) entries) (taken ++ more) e in
+    let inner = cut (before ++ x ∷ []) entries taken more both.1 in
+    record {
+      front = x ∷ inner.front;
+      rest = inner.rest;
+      all = ap (λ xs. x ∷ xs) inner.all;
+      first = ap (λ s. s ∷ taken) (sym both.0) ∙ ap (λ ss. (answer_of x, before ++ x ∷ []) ∷ ss) inner.first;
+      behind = inner.behind ∙ ap (λ b. steps_of b inner.rest) (append_assoc before (x ∷ []) inner.front);
+    }
+
+-- ---- what main comes to
+
 -- what main comes to with these answers
 abbrev pub main_outcome : SpecTree → ExprTree → ℕ → List Answer → Outcome Flow Question Answer Fault
 main_outcome spec tree units bs = run (meaning (plan_of spec) spent) (main_plan spec tree) bs units
+
+-- it is sound behind a run: main asks for each class object and to end, and its tasks three questions for each unit
+abbrev pub IsMainSound : SpecTree → ExprTree → ℕ → List Entry → Outcome Flow Question Answer Fault → Type 0
+IsMainSound spec tree units entries o =
+    SoundBy (rules spec tree) LeavesAnEnd (MayHaveAsked (Some 3) (Some (suc (length (classes_of spec)))) units) [] [] (steps_of [] entries) (main_outcome spec tree units) o
 
 module _ (spec : SpecTree) (tree : ExprTree) (units : ℕ) where
   answers-steps : (before entries : List Entry) → AreLegal spec tree units before entries → main_answers before ++ answers (steps_of before entries) ≡ main_answers (before ++ entries)
@@ -52,8 +92,7 @@ module _ (spec : SpecTree) (tree : ExprTree) (units : ℕ) where
       let same : legal.question ≡ q = cc in
       record {
         taken = e;
-        made_of = subst (λ r. made Main r (answer_of e) ≡ Some e) same (subst (λ a. made Main legal.question a ≡ Some e) (sym back.2) legal.made_of);
-        legal = h.at_object;
+        is = legal-entry spec before q (answer_of e) e (subst (λ r. made Main r (answer_of e) ≡ Some e) same (subst (λ a. made Main legal.question a ≡ Some e) (sym back.2) legal.made_of)) h.at_object;
         last = refl;
       }
 
@@ -66,8 +105,11 @@ module _ (spec : SpecTree) (tree : ExprTree) (units : ℕ) where
         (before ++ e ∷ []) (steps_of (before ++ e ∷ []) entries) (plays (before ++ e ∷ []) entries h.1),
   )
 
+  pub run-answers : (entries : List Entry) → IsRun spec tree units entries → answers (steps_of [] entries) ≡ main_answers entries
+  run-answers entries h = answers-steps [] entries h
+
   -- what main comes to behind a run is sound after its steps
-  pub run-sound : (entries : List Entry) → IsRun spec tree units entries → SoundBy (rules spec tree) LeavesAnEnd [] [] (steps_of [] entries) (main_outcome spec tree units) (main_outcome spec tree units (main_answers entries))
+  pub run-sound : (entries : List Entry) → IsRun spec tree units entries → IsMainSound spec tree units entries (main_outcome spec tree units (main_answers entries))
   run-sound entries h =
-      subst (λ bs. SoundBy (rules spec tree) LeavesAnEnd [] [] (steps_of [] entries) (main_outcome spec tree units) (main_outcome spec tree units bs)) (answers-steps [] entries h)
-      (sound (rules spec tree) (plan_of spec) spent (safe-task spec tree) (main_plan spec tree) LeavesAnEnd [] [] (safe-main spec tree) units (steps_of [] entries) (plays [] entries h))
+      subst (λ bs. IsMainSound spec tree units entries (main_outcome spec tree units bs)) (run-answers entries h)
+      (sound (rules spec tree) (plan_of spec) spent (tasks-keep spec tree) (main_plan spec tree) LeavesAnEnd (Some (suc (length (classes_of spec)))) [] [] (safe-main spec tree) units (steps_of [] entries) (plays [] entries h))

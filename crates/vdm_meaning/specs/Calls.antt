@@ -1,25 +1,23 @@
--- Calls of operations, and new objects.
-use Rattle.std.specs.Prelude.{ℕ, if◌then◌else◌, List, [], ◌∷◌, ◌++◌, Option, Some, None, Result, Ok, Err}
+-- Calls of operations.
+use Rattle.std.specs.Prelude.{ℕ, if◌then◌else◌, Option, Some, None, Result, Ok, Err}
 use Rattle.vdm_kinds.specs.declared.member.OpRef.{OpRef}
 use Rattle.vdm_kinds.specs.declared.name.Name.{Name}
 use Rattle.vdm_kinds.specs.declared.place.Place.{Place}
 use Rattle.vdm_kinds.specs.declared.run_fault.RunFault.{RunFault}
-use Rattle.vdm_kinds.specs.declared.run_fault.RunFault.TheVariants.{GuardFault, NoReturn, TypeFault, Undefined}
+use Rattle.vdm_kinds.specs.declared.run_fault.RunFault.TheVariants.{GuardFault, NoReturn, TypeFault}
 use Rattle.vdm_values.specs.declared.slot.Slot.{Slot}
 use Rattle.vdm_values.specs.declared.slot.Slot.TheVariants.{Unset, Held}
 use Rattle.abstract_syntax.specs.Values.{ValueTree, object}
 use Rattle.abstract_syntax.specs.Types.{TypeTree}
 use Rattle.abstract_syntax.specs.Expressions.{ExprTree, ExprTrees, named, select, no_exprs}
-use Rattle.abstract_syntax.specs.Classes.{VariableTree, OperationTree, ClassTree, SpecTree, class_variables, operation_named, class_named}
+use Rattle.abstract_syntax.specs.Classes.{OperationTree, ClassTree, SpecTree, operation_named, class_named}
 use Rattle.run_journal.specs.declared.answer.Answer.{Answer}
-use Rattle.run_journal.specs.declared.answer.Answer.TheVariants.{Object, Inner}
-use Rattle.run_journal.specs.declared.question.Question.TheVariants.{New, Req, Act, Fin}
+use Rattle.run_journal.specs.declared.answer.Answer.TheVariants.{Inner}
+use Rattle.run_journal.specs.declared.question.Question.TheVariants.{Req, Act, Fin}
 use Rattle.plans.specs.Plans.{finish, fail, ask, part}
 use Rattle.vdm_meaning.specs.Faults.{fault_at}
-use Rattle.vdm_meaning.specs.Tasks.{Env, inside, outside, expr_in, stmt_in, Flow, gave, returned, Code, with_value, value}
-use Rattle.vdm_meaning.specs.Types.{fits, all_fit}
-
--- ---- calls
+use Rattle.vdm_meaning.specs.Tasks.{Env, inside, expr_in, stmt_in, Flow, gave, returned, Code, with_value, value}
+use Rattle.vdm_meaning.specs.Types.{fits}
 
 -- whether a call's value is wanted
 pub data Wanted : Type 0 where
@@ -84,37 +82,8 @@ call_on spec name place wanted _ = fail (fault_at TypeFault place)
 -- what an application does, by what is applied: a name is an operation of the object itself; of a selection the object is
 -- evaluated first. So far no operation has a parameter.
 abbrev pub call_plan : SpecTree → Env → ExprTree → ExprTrees → Place → Wanted → Code
-call_plan spec (inside me class) (named name name_place) no_exprs place wanted = call_found class me (operation_named class name) place wanted
-call_plan spec env (select target name name_place dot) no_exprs place wanted = part (expr_in env target) (with_value place (call_on spec name place wanted))
+call_plan spec (inside me class) (named name name_place) no_exprs place wanted =
+    call_found class me (operation_named class name) place wanted
+call_plan spec env (select target name name_place dot) no_exprs place wanted =
+    part (expr_in env target) (with_value place (call_on spec name place wanted))
 call_plan spec env _ _ place wanted = fail (fault_at TypeFault place)
-
--- ---- new objects
-
--- what the answer that a new object was made gives: the object
-abbrev pub created : Name → Place → Answer → Code
-created class place (Object n) = value (object n class)
-created class place _ = fail (fault_at Undefined place)
-
--- once all initialisers are evaluated their types are tested, and then the object is asked for
-abbrev pub make_object : ClassTree → Place → List Slot → Code
-make_object class place slots =
-    if all_fit (class_variables class) slots then ask (New class.name slots) (created class.name place)
-    else fail (fault_at TypeFault place)
-
--- the slot of one variable behind others: what its initialiser gives, or unset where it has none
-abbrev pub with_slot : (List Slot → Code) → List Slot → ValueTree → Code
-with_slot rest slots v = rest (slots ++ Held v ∷ [])
-
-abbrev pub initial_then : Option ExprTree → Place → (List Slot → Code) → List Slot → Code
-initial_then None place rest slots = rest (slots ++ Unset ∷ [])
-initial_then (Some initial) place rest slots = part (expr_in outside initial) (with_value place (with_slot rest slots))
-
--- the initialisers of the variables, in the order of the layout, behind the slots that were made
-abbrev pub initialise : ClassTree → Place → List VariableTree → List Slot → Code
-initialise class place [] slots = make_object class place slots
-initialise class place (variable ∷ variables) slots = initial_then variable.initial place (initialise class place variables) slots
-
--- a new object of a class of the specification. So far no class has a constructor.
-abbrev pub new_of : Option ClassTree → ExprTrees → Place → Code
-new_of (Some class) no_exprs place = initialise class place (class_variables class) []
-new_of _ _ place = fail (fault_at Undefined place)

@@ -1,6 +1,5 @@
 -- What each node of an expression does, one line a kind.
 use Rattle.std.specs.Prelude.{ℕ, Option, Some, None, Result, Ok, Err}
-use Rattle.vdm_kinds.specs.declared.member.VarRef.{VarRef}
 use Rattle.vdm_kinds.specs.declared.name.Name.{Name}
 use Rattle.vdm_kinds.specs.declared.operator.Operator.{Operator}
 use Rattle.vdm_kinds.specs.declared.place.Place.{Place}
@@ -14,10 +13,12 @@ use Rattle.run_journal.specs.declared.answer.Answer.{Answer}
 use Rattle.run_journal.specs.declared.answer.Answer.TheVariants.{Slot as Holds}
 use Rattle.run_journal.specs.declared.question.Question.TheVariants.{Read}
 use Rattle.plans.specs.Plans.{fail, ask, part}
+use Rattle.vdm_legal.specs.State.{variable_ref}
 use Rattle.vdm_meaning.specs.Faults.{fault_at}
 use Rattle.vdm_meaning.specs.Operators.{applied}
 use Rattle.vdm_meaning.specs.Tasks.{Env, outside, inside, expr_in, Code, with_value, value}
-use Rattle.vdm_meaning.specs.Calls.{a_value, call_plan, new_of}
+use Rattle.vdm_meaning.specs.Calls.{a_value, call_plan}
+use Rattle.vdm_meaning.specs.Objects.{new_of}
 
 -- the value, or the fault at the node's place
 abbrev pub value_or_fault : Place → Result ValueTree RunFault → Code
@@ -31,9 +32,6 @@ operator_on operator place a b = value_or_fault place (applied operator a b)
 -- the right operand after the left one, then the operator
 abbrev pub right_operand : Env → ExprTree → Operator → Place → ValueTree → Code
 right_operand env right operator place a = part (expr_in env right) (with_value place (operator_on operator place a))
-
-abbrev pub variable_ref : ClassTree → VariableTree → VarRef
-variable_ref class variable = record { class = class.name; name = variable.name }
 
 -- what was read; an unset variable has no value
 abbrev pub read_value : Place → Answer → Code

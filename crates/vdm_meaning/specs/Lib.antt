@@ -3,13 +3,11 @@ pub mod Operators
 pub mod Tasks
 pub mod Types
 pub mod Calls
+pub mod Objects
 pub mod Expressions
 pub mod Statements
 pub mod TaskPlans
 pub mod Main
-pub mod State
 pub mod Entries
 pub mod Runs
-pub mod Order
-pub mod Ready
 pub mod Worked

@@ -1,22 +1,18 @@
 -- The code of main, and where a thread stands in its code after its answers.
 use Rattle.std.specs.Prelude.{ℕ, ◌+◌, List, [], ◌∷◌}
 use Rattle.vdm_kinds.specs.declared.name.Name.{Name}
-use Rattle.vdm_kinds.specs.NameList.{io}
 use Rattle.vdm_values.specs.declared.slot.Slot.{Slot}
 use Rattle.vdm_values.specs.declared.slot.Slot.TheVariants.{Unset}
-use Rattle.abstract_syntax.specs.Classes.{SpecTree, class_names}
+use Rattle.abstract_syntax.specs.Classes.{SpecTree}
 use Rattle.abstract_syntax.specs.Expressions.{ExprTree, apply, create}
 use Rattle.run_journal.specs.declared.answer.Answer.{Answer}
 use Rattle.run_journal.specs.declared.question.Question.{Question}
 use Rattle.run_journal.specs.declared.question.Question.TheVariants.{Class, End, Fail}
 use Rattle.plans.specs.Plans.{Outcome, gives, faults, needs, finish, ask, part, run, meaning}
+use Rattle.vdm_legal.specs.ClassObjects.{classes_of}
 use Rattle.vdm_meaning.specs.Faults.{Fault}
 use Rattle.vdm_meaning.specs.Tasks.{outside, Task, expr_in, call_in, Flow, gave, next, returned, Code, spent}
 use Rattle.vdm_meaning.specs.TaskPlans.{plan_of}
-
--- the classes whose class objects are made, in order: `IO`, whose class object is object 0, and then those of the text
-abbrev pub classes_of : SpecTree → List Name
-classes_of spec = io ∷ class_names spec
 
 -- the units of a thread
 abbrev pub step_limit : ℕ

@@ -15,7 +15,7 @@ use Rattle.plans.specs.Plans.{finish, fail, ask, part}
 use Rattle.vdm_meaning.specs.Faults.{fault_at}
 use Rattle.vdm_meaning.specs.Tasks.{Env, outside, inside, expr_in, call_in, stmt_in, Flow, gave, next, returned, Code, with_value}
 use Rattle.vdm_meaning.specs.Types.{fits}
-use Rattle.vdm_meaning.specs.Expressions.{variable_ref}
+use Rattle.vdm_legal.specs.State.{variable_ref}
 
 -- a write that was refused breaks an instance invariant
 abbrev pub written : Place → Answer → Code

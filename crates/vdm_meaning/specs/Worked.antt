@@ -23,7 +23,7 @@ use Rattle.vdm_values.specs.declared.slot.Slot.TheVariants.{Held}
 use Rattle.abstract_syntax.specs.Values.{number}
 use Rattle.abstract_syntax.specs.Types.{nat}
 use Rattle.abstract_syntax.specs.Expressions.{ExprTree, whole, named, joined, apply, create, select, no_exprs}
-use Rattle.abstract_syntax.specs.Statements.{variable, StmtTree, assign, call, block, returns, no_stmts, one_stmt}
+use Rattle.abstract_syntax.specs.Statements.{variable, StmtTree, StmtTrees, assign, call, block, returns, no_stmts, one_stmt}
 use Rattle.abstract_syntax.specs.Classes.{VariableTree, OperationTree, variables, operations, SpecTree}
 use Rattle.run_journal.specs.declared.answer.Answer.{Answer}
 use Rattle.run_journal.specs.declared.answer.Answer.TheVariants.{Done, Object, Slot as Holds}
@@ -69,7 +69,9 @@ operation_inc = record {
   name = inc;
   name_place = in_spec 5 3;
   result_type = None;
-  body = assign (variable n (in_spec 6 12)) (joined (named n (in_spec 6 17)) Plus (whole (pos 1) (in_spec 6 21)) (in_spec 6 19)) (in_spec 6 12);
+  body =
+      assign (variable n (in_spec 6 12)) (joined (named n (in_spec 6 17)) Plus (whole (pos 1) (in_spec 6 21)) (in_spec 6 19))
+      (in_spec 6 12);
   place = in_spec 5 3;
 }
 
@@ -77,13 +79,21 @@ operation_inc = record {
 abbrev call_of_inc : ℕ → ℕ → StmtTree
 call_of_inc column bracket = call (apply (named inc (in_spec 8 column)) no_exprs (in_spec 8 bracket)) (in_spec 8 column)
 
+-- what stands in the brackets of `three`
+abbrev statements_three : StmtTrees
+statements_three =
+    one_stmt (call_of_inc 15 18)
+    (one_stmt (call_of_inc 22 25)
+    (one_stmt (call_of_inc 29 32)
+    (one_stmt (returns (Some (named n (in_spec 8 43))) (in_spec 8 36)) no_stmts)))
+
 abbrev operation_three : OperationTree
 operation_three = record {
   access = record { is_static = false; level = Public };
   name = three;
   name_place = in_spec 7 10;
   result_type = Some (nat (in_spec 7 25));
-  body = block [] (one_stmt (call_of_inc 15 18) (one_stmt (call_of_inc 22 25) (one_stmt (call_of_inc 29 32) (one_stmt (returns (Some (named n (in_spec 8 43))) (in_spec 8 36)) no_stmts)))) (in_spec 8 14);
+  body = block [] statements_three (in_spec 8 14);
   place = in_spec 7 3;
 }
 
@@ -129,7 +139,12 @@ said_for_the_object = (New counter (holds 0 ∷ []), Object 2) ∷ (Req 2 op_thr
 -- a call of `inc`: what `n` held, and what it holds then
 abbrev pub said_for_inc : ℕ → ℕ → List Said
 said_for_inc before after =
-    (Req 2 op_inc, Done) ∷ (Act 2 op_inc, Done) ∷ (Read 2 var_n, Holds (holds before)) ∷ (Write 2 (record { var = var_n; value = number (pos after) } ∷ []), Done) ∷ (Fin 2 op_inc, Done) ∷ []
+    (Req 2 op_inc, Done)
+    ∷ (Act 2 op_inc, Done)
+    ∷ (Read 2 var_n, Holds (holds before))
+    ∷ (Write 2 (record { var = var_n; value = number (pos after) } ∷ []), Done)
+    ∷ (Fin 2 op_inc, Done)
+    ∷ []
 
 abbrev pub said_last : List Said
 said_last = (Read 2 var_n, Holds (holds 3)) ∷ (Fin 2 op_three, Done) ∷ (End (holds 3), Done) ∷ []
@@ -140,7 +155,8 @@ said = said_first ++ said_for_the_object ++ said_for_inc 0 1 ++ said_for_inc 1 2
 -- main asks these questions in turn, where each is answered so, and then it is over
 abbrev pub AreSaid : SpecTree → ExprTree → ℕ → List Answer → List Said → Type 0
 AreSaid spec tree units answers [] = main_code spec tree units answers ≡ over
-AreSaid spec tree units answers (pair ∷ pairs) = (main_code spec tree units answers ≡ asks pair.0) × AreSaid spec tree units (answers ++ pair.1 ∷ []) pairs
+AreSaid spec tree units answers (pair ∷ pairs) =
+    (main_code spec tree units answers ≡ asks pair.0) × AreSaid spec tree units (answers ++ pair.1 ∷ []) pairs
 
 -- the answers alone
 abbrev pub answers_in : List Said → List Answer

@@ -1,7 +1,7 @@
 -- The ends: their status, their last line, and what a journal decides.
 use Rattle.std.specs.Prelude.{◌≡◌, ℕ, List, Option, Some, None}
 use Rattle.run_journal.specs.Numbers.{IsNumberSlot}
-use Rattle.vdm_meaning.specs.Runs.{Finish, ended, failed}
+use Rattle.vdm_legal.specs.Finishes.{Finish, ended, failed}
 use Rattle.report_texts.specs.Lines.{usage_line, read_fault_line, refused_line, failed_line, result_line}
 use Rattle.vdm_report.specs.declared.end.End.{End}
 use Rattle.vdm_report.specs.declared.end.End.TheVariants.{Ended, Refused, Usage, Failed, ReadFault, WriteFault, OutOfMemory}

@@ -1,6 +1,6 @@
 use Rattle.std.proofs.Common.{◌≡◌, length, ◌-◌}
 use Rattle.abstract_syntax.specs.Classes.{class_variables}
-use Rattle.vdm_meaning.specs.Calls.{initialise}
+use Rattle.vdm_meaning.specs.Objects.{initialise}
 use Rattle.class_table.specs.Tables.{class_of, variables_from}
 use Rattle.call_steps.proofs.object.initialise.Given as goal
 

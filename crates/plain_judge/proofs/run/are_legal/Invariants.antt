@@ -3,7 +3,7 @@ use Rattle.run_journal.specs.declared.answer.Answer.{Answer}
 use Rattle.stmt_exec.specs.Standing.{rest}
 use Rattle.vdm_meaning.specs.Main.{main_code}
 use Rattle.vdm_meaning.specs.Runs.{AreLegal, IsRun}
-use Rattle.vdm_meaning.proofs.Journals.{main_answers}
+use Rattle.vdm_legal.proofs.Journals.{main_answers}
 use Rattle.vdm_tree.specs.ClassView.{spec_view}
 use Rattle.vdm_tree.specs.View.{view_of}
 use Rattle.plain_judge.proofs.run.are_legal.Given as goal

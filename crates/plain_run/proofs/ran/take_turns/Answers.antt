@@ -1,6 +1,6 @@
 use Rattle.std.proofs.Common.{ap, ◌∙◌}
 use Rattle.stmt_exec.specs.Standing.{rest}
-use Rattle.vdm_meaning.specs.Runs.{finish_of}
+use Rattle.vdm_legal.specs.Finishes.{finish_of}
 use Rattle.plain_state.specs.Entered.{journal}
 use Rattle.plain_run.proofs.Endings.{still-open}
 use Rattle.plain_run.proofs.Turns.{cut-order, cut-run, never-over, question-ready, turn-goes_on, turn-order, turn-run}

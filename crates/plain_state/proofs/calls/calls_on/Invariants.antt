@@ -1,6 +1,6 @@
 use Rattle.std.proofs.Common.{◌≡◌, ◌≤◌, ◌+◌, drop}
 use Rattle.run_journal.specs.Parts.{object_part}
-use Rattle.vdm_meaning.specs.State.{count_of}
+use Rattle.vdm_legal.specs.State.{count_of}
 use Rattle.plain_state.specs.Phases.{tells}
 use Rattle.plain_state.proofs.calls.calls_on.Given as goal
 

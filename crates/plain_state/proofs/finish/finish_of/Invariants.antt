@@ -1,5 +1,5 @@
 use Rattle.std.proofs.Common.{◌≡◌, drop}
-use Rattle.vdm_meaning.specs.Runs.{finish_of}
+use Rattle.vdm_legal.specs.Finishes.{finish_of}
 use Rattle.plain_state.proofs.finish.finish_of.Given as goal
 
 -- the entries so far decide nothing

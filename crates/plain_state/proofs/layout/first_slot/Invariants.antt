@@ -1,6 +1,6 @@
 use Rattle.std.proofs.Common.{◌≡◌, drop}
 use Rattle.run_journal.specs.Parts.{object_part}
-use Rattle.vdm_meaning.specs.State.{first_slot}
+use Rattle.vdm_legal.specs.State.{first_slot}
 use Rattle.vdm_tree.specs.ClassView.{spec_view}
 use Rattle.plain_state.proofs.layout.first_slot.Given as goal
 

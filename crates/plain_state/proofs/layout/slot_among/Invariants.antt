@@ -1,7 +1,7 @@
 use Rattle.std.proofs.Common.{◌≡◌, ◌+◌, ◌++◌, map, drop}
 use Rattle.std.specs.Prelude.{flat_map}
 use Rattle.abstract_syntax.specs.Classes.{class_variables, variables_in}
-use Rattle.vdm_meaning.specs.State.{slot_among}
+use Rattle.vdm_legal.specs.State.{slot_among}
 use Rattle.vdm_tree.specs.ClassView.{block_view, class_view, variable_view}
 use Rattle.plain_state.proofs.layout.slot_among.Given as goal
 

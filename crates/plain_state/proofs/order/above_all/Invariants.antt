@@ -1,6 +1,6 @@
 use Rattle.std.proofs.Common.{◌≡◌, drop}
 use Rattle.std.specs.Prelude.{max}
-use Rattle.vdm_meaning.specs.Order.{above_all}
+use Rattle.vdm_legal.specs.Order.{above_all}
 use Rattle.plain_state.proofs.order.above_all.Given as goal
 
 -- the greatest so far and the rest decide

@@ -1,5 +1,5 @@
 use Rattle.std.proofs.Common.{◌↔◌, take, drop}
-use Rattle.vdm_meaning.specs.Order.{AreNumbered, IsInOrder}
+use Rattle.vdm_legal.specs.Order.{AreNumbered, IsInOrder}
 use Rattle.vdm_tree.specs.ClassView.{spec_view}
 use Rattle.plain_state.proofs.order.is_in_order.Given as goal
 

@@ -1,6 +1,6 @@
 use Rattle.std.proofs.Common.{◌≡◌, length}
 use Rattle.run_journal.specs.Parts.{object_part}
-use Rattle.vdm_meaning.specs.State.{last_written}
+use Rattle.vdm_legal.specs.State.{last_written}
 use Rattle.plain_state.proofs.writes.last_written.Given as goal
 
 -- the entries that were passed write nothing to the variable of the object

@@ -1,5 +1,5 @@
 use Rattle.std.proofs.Common.{◌≡◌, length}
-use Rattle.vdm_meaning.specs.State.{written_in}
+use Rattle.vdm_legal.specs.State.{written_in}
 use Rattle.plain_state.proofs.writes.written_in.Given as goal
 
 -- the pairs that were passed are of other variables

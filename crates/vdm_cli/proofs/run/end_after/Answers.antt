@@ -1,5 +1,5 @@
 use Rattle.std.proofs.Common.{◌≡◌, Some, IfSome, subst}
-use Rattle.vdm_meaning.specs.Runs.{finish_of}
+use Rattle.vdm_legal.specs.Finishes.{finish_of}
 use Rattle.plain_state.specs.Finishes.{finishes}
 use Rattle.vdm_cli.proofs.run.end_after.Goals as goal
 

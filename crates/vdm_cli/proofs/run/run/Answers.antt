@@ -6,13 +6,13 @@ use Rattle.vdm_tree.specs.View.{view_of}
 use Rattle.vdm_cli.proofs.RunTexts.{expression-no_object}
 use Rattle.vdm_cli.proofs.run.run.Goals as goal
 
-pub returns : goal.returns
-returns c =
+pub returns-clause-run : goal.returns-clause-run
+returns-clause-run c =
     let lines = run-numbers (spec_view c.args.spec.now) (view_of c.args.tree.now) step_limit c.run-ran.result.journal (expression-no_object (view_of c.args.tree.now) c.requires.expression) c.run-ran.ensures.run in
-    record {
+    rw (c.new.ensures.journal, c.new.ensures.end) (record {
       run = c.run-ran.ensures.run;
       order = c.run-ran.ensures.order;
       ends = c.end_after.ensures.ends c.run-ran.result.journal c.run-ran.ensures.finish;
       lines = lines;
       line = c.end_after.ensures.line c.run-ran.result.journal lines c.run-ran.ensures.finish;
-    }
+    })

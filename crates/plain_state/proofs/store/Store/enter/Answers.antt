@@ -1,5 +1,5 @@
 use Rattle.std.proofs.Common.{arith, ap}
-use Rattle.vdm_meaning.specs.Order.{above_all}
+use Rattle.vdm_legal.specs.Order.{above_all}
 use Rattle.plain_state.proofs.Numbers.{above-more}
 use Rattle.plain_state.proofs.store.Store.enter.Goals as goal
 

@@ -4,7 +4,7 @@ use Rattle.abstract_syntax.specs.Classes.{SpecTree}
 use Rattle.run_journal.specs.declared.deed.Deed.{Deed}
 use Rattle.run_journal.specs.declared.deed.Deed.TheVariants.{New}
 use Rattle.run_journal.specs.declared.entry.Entry.{Entry}
-use Rattle.vdm_meaning.specs.Main.{classes_of}
+use Rattle.vdm_legal.specs.ClassObjects.{classes_of}
 
 -- one more than the greatest number of an object on which an entry stands
 abbrev pub above_all : List Entry → ℕ

@@ -9,7 +9,7 @@ use Rattle.run_journal.specs.declared.entry.Entry.{Entry}
 use Rattle.run_journal.specs.declared.thread.Thread.TheVariants.{Main}
 use Rattle.run_journal.specs.Made.{entry}
 use Rattle.run_journal.specs.Parts.{is_on, object_part}
-use Rattle.vdm_meaning.specs.State.{count_of}
+use Rattle.vdm_legal.specs.State.{count_of}
 
 -- how often a deed of the kind stands on the object
 abbrev pub counted : (Deed → Bool) → ℕ → List Entry → ℕ

@@ -14,6 +14,9 @@ use Rattle.run_journal.specs.declared.write.Write.{Write as Pair}
 
 -- ---- variables
 
+abbrev pub variable_ref : ClassTree → VariableTree → VarRef
+variable_ref class variable = record { class = class.name; name = variable.name }
+
 abbrev pub is_same_variable : VarRef → VarRef → Bool
 is_same_variable a b = is_same_name a.class b.class && is_same_name a.name b.name
 
@@ -40,7 +43,7 @@ last_written var (entry ∷ entries) = last_of (written_by var entry.deed) (last
 -- the slot of a variable of the class, among the slots in the order of its layout
 abbrev pub slot_among : ClassTree → VarRef → List VariableTree → List Slot → Option Slot
 slot_among class var (variable ∷ variables) (slot ∷ slots) =
-    if is_same_variable var (record { class = class.name; name = variable.name }) then Some slot else slot_among class var variables slots
+    if is_same_variable var (variable_ref class variable) then Some slot else slot_among class var variables slots
 slot_among class var _ _ = None
 
 abbrev pub slot_in_class : Option ClassTree → VarRef → List Slot → Option Slot

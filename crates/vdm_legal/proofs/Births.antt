@@ -1,5 +1,5 @@
 -- Objects that were born: what their variables hold.
-use Rattle.std.proofs.Common.{◌≡◌, ◌≢◌, ℕ, ◌&&◌, Bool, true, false, if◌then◌else◌, List, [], ◌∷◌, ◌++◌, length, Option, Some, None, option_map, refl, ap, ◌∙◌, subst, arith}
+use Rattle.std.proofs.Common.{◌≡◌, ◌≢◌, ℕ, ◌&&◌, Bool, true, false, if◌then◌else◌, List, [], ◌∷◌, ◌++◌, length, Option, Some, None, IfSome, option_map, refl, ap, ◌∙◌, subst, arith}
 use Rattle.std.specs.List.{AllByRecursion as Each, find}
 use Rattle.std.proofs.lemmas.Bool.{eq-eqb}
 use Rattle.std.proofs.lemmas.List.Elements.{filter-append}
@@ -15,9 +15,8 @@ use Rattle.run_journal.specs.declared.entry.Entry.{Entry}
 use Rattle.run_journal.specs.declared.write.Write.{Write as Pair}
 use Rattle.run_journal.specs.Numbers.{IsNumber, IsNumberSlot, IsNumberPair}
 use Rattle.run_journal.specs.Parts.{is_on, object_part}
-use Rattle.vdm_meaning.specs.Expressions.{variable_ref}
-use Rattle.vdm_meaning.specs.State.{is_same_variable, last_of, written_in, written_by, last_written, slot_among, slot_in_class, slot_made, first_slot, state_of}
-use Rattle.vdm_meaning.proofs.Sanity.{KeepsNumbers, IsSane}
+use Rattle.vdm_legal.specs.State.{variable_ref, is_same_variable, last_of, written_in, written_by, last_written, slot_among, slot_in_class, slot_made, first_slot, state_of}
+use Rattle.vdm_legal.proofs.Sanity.{KeepsNumbers, IsSane}
 
 -- the object was made as one of the class, with a slot for each of its variables
 pub record IsBorn (spec : SpecTree) (entries : List Entry) (me : ℕ) (class : ClassTree) : Type 0 where
@@ -86,56 +85,48 @@ variable-holds spec entries me class name var b e =
 
 -- ---- what a variable holds is a number
 
-abbrev IsNumberIfSome : Option ValueTree → Type 0
-IsNumberIfSome None = Unit {0}
-IsNumberIfSome (Some v) = IsNumber v
-
-abbrev IsNumberSlotIfSome : Option Slot → Type 0
-IsNumberSlotIfSome None = Unit {0}
-IsNumberSlotIfSome (Some slot) = IsNumberSlot slot
-
-last-number : (a b : Option ValueTree) → IsNumberIfSome a → IsNumberIfSome b → IsNumberIfSome (last_of a b)
+last-number : (a b : Option ValueTree) → IfSome a IsNumber → IfSome b IsNumber → IfSome (last_of a b) IsNumber
 last-number a None h k = h
 last-number a (Some v) h k = k
 
-written-number : (var : VarRef) (pairs : List Pair) → Each IsNumberPair pairs → IsNumberIfSome (written_in var pairs)
+written-number : (var : VarRef) (pairs : List Pair) → Each IsNumberPair pairs → IfSome (written_in var pairs) IsNumber
 written-number var [] h = tt
 written-number var (pair ∷ pairs) h = last-number (if is_same_variable var pair.var then Some pair.value else None) (written_in var pairs) (one (is_same_variable var pair.var)) (written-number var pairs h.1)
   where
-    one : (b : Bool) → IsNumberIfSome (if b then Some pair.value else None)
+    one : (b : Bool) → IfSome (if b then Some pair.value else None) IsNumber
     one true = h.0
     one false = tt
 
-deed-number : (var : VarRef) (d : Deed) → KeepsNumbers d → IsNumberIfSome (written_by var d)
+deed-number : (var : VarRef) (d : Deed) → KeepsNumbers d → IfSome (written_by var d) IsNumber
 deed-number var (deed.Write pairs false) h = written-number var pairs h
 deed-number var _ h = tt
 
-last_written-number : (var : VarRef) (entries : List Entry) → Each (λ (e : Entry). KeepsNumbers e.deed) entries → IsNumberIfSome (last_written var entries)
+last_written-number : (var : VarRef) (entries : List Entry) → Each (λ (e : Entry). KeepsNumbers e.deed) entries → IfSome (last_written var entries) IsNumber
 last_written-number var [] h = tt
 last_written-number var (e ∷ entries) h = last-number (written_by var e.deed) (last_written var entries) (deed-number var e.deed h.0) (last_written-number var entries h.1)
 
-among-number : (class : ClassTree) (var : VarRef) (variables : List VariableTree) (slots : List Slot) → Each IsNumberSlot slots → IsNumberSlotIfSome (slot_among class var variables slots)
+among-number : (class : ClassTree) (var : VarRef) (variables : List VariableTree) (slots : List Slot) → Each IsNumberSlot slots → IfSome (slot_among class var variables slots) IsNumberSlot
 among-number class var [] slots h = tt
 among-number class var (v ∷ variables) [] h = tt
 among-number class var (v ∷ variables) (slot ∷ slots) h = one (is_same_variable var (variable_ref class v)) (among-number class var variables slots h.1)
   where
-    one : (b : Bool) → IsNumberSlotIfSome (slot_among class var variables slots) → IsNumberSlotIfSome (if b then Some slot else slot_among class var variables slots)
+    one : (b : Bool) → IfSome (slot_among class var variables slots) IsNumberSlot → IfSome (if b then Some slot else slot_among class var variables slots) IsNumberSlot
     one true k = h.0
     one false k = k
 
-in_class-number : (class : Option ClassTree) (var : VarRef) (slots : List Slot) → Each IsNumberSlot slots → IsNumberSlotIfSome (slot_in_class class var slots)
+in_class-number : (class : Option ClassTree) (var : VarRef) (slots : List Slot) → Each IsNumberSlot slots → IfSome (slot_in_class class var slots) IsNumberSlot
 in_class-number None var slots h = tt
 in_class-number (Some class) var slots h = among-number class var (class_variables class) slots h
 
-made-number : (spec : SpecTree) (var : VarRef) (d : Deed) → KeepsNumbers d → IsNumberSlotIfSome (slot_made spec var d)
+made-number : (spec : SpecTree) (var : VarRef) (d : Deed) → KeepsNumbers d → IfSome (slot_made spec var d) IsNumberSlot
 made-number spec var (deed.New class slots) h = in_class-number (class_named spec class) var slots h
 made-number spec var _ h = tt
 
-first-number : (spec : SpecTree) (var : VarRef) (entries : List Entry) → Each (λ (e : Entry). KeepsNumbers e.deed) entries → IsNumberSlotIfSome (first_slot spec var entries)
+first-number : (spec : SpecTree) (var : VarRef) (entries : List Entry) → Each (λ (e : Entry). KeepsNumbers e.deed) entries → IfSome (first_slot spec var entries) IsNumberSlot
 first-number spec var [] h = tt
 first-number spec var (e ∷ entries) h = made-number spec var e.deed h.0
 
-state-number : (a : Option Slot) (b : Option ValueTree) → IsNumberSlotIfSome a → IsNumberIfSome b → IsNumberSlotIfSome (last_of a (option_map Held b))
+state-number : (a : Option Slot) (b : Option ValueTree) → IfSome a IsNumberSlot → IfSome b IsNumber → IfSome (last_of a (option_map Held b)) IsNumberSlot
 state-number a None h k = h
 state-number a (Some v) h k = k
 
@@ -150,4 +141,4 @@ part-numbers o (e ∷ entries) h = one (is_on o e) (part-numbers o entries h.1)
 pub held-number : (spec : SpecTree) (entries : List Entry) (o : ℕ) (var : VarRef) (slot : Slot) → IsSane entries → state_of spec (object_part o entries) var ≡ Some slot → IsNumberSlot slot
 held-number spec entries o var slot sane e =
     let numbers = part-numbers o entries sane.numbers in
-    subst IsNumberSlotIfSome e (state-number (first_slot spec var (object_part o entries)) (last_written var (object_part o entries)) (first-number spec var (object_part o entries) numbers) (last_written-number var (object_part o entries) numbers))
+    subst (λ o. IfSome o IsNumberSlot) e (state-number (first_slot spec var (object_part o entries)) (last_written var (object_part o entries)) (first-number spec var (object_part o entries) numbers) (last_written-number var (object_part o entries) numbers))

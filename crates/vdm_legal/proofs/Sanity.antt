@@ -1,6 +1,7 @@
--- What every journal keeps: its counters rise in order, and its objects hold numbers; and how it grows while a task is done.
-use Rattle.std.proofs.Common.{◌≡◌, ℕ, ◌+◌, ◌≤◌, ◌<◌, Bool, false, List, [], ◌∷◌, ◌++◌, refl, sym, ap, ◌∙◌, append_assoc, append-nil, arith}
+-- What every journal keeps while tasks are done: its counters rise in order, its objects hold numbers, and no end is in it; and how it grows by a task.
+use Rattle.std.proofs.Common.{◌≡◌, ◌≢◌, ℕ, ◌+◌, ◌≤◌, ◌<◌, Bool, false, List, [], ◌∷◌, ◌++◌, None, refl, sym, ap, ◌∙◌, append_assoc, append-nil, arith}
 use Rattle.std.specs.List.{AllByRecursion as Each}
+use Rattle.std.proofs.lemmas.List.Elements.{filter-append}
 use Rattle.vdm_kinds.specs.declared.member.OpRef.{OpRef}
 use Rattle.vdm_kinds.specs.declared.name.Name.{Name}
 use Rattle.abstract_syntax.specs.Classes.{is_same_name}
@@ -10,8 +11,11 @@ use Rattle.run_journal.specs.declared.entry.Entry.{Entry}
 use Rattle.run_journal.specs.declared.thread.Thread.TheVariants.{Main}
 use Rattle.run_journal.specs.Made.{entry}
 use Rattle.run_journal.specs.Numbers.{IsNumberSlot, IsNumberPair}
-use Rattle.vdm_meaning.specs.State.{is_request, is_activation, is_finish}
-use Rattle.vdm_meaning.proofs.Counting.{counted, counted-more, counted-one, adds, adds-none, adds-here}
+use Rattle.run_journal.specs.Parts.{is_on, object_part}
+use Rattle.vdm_legal.specs.Finishes.{decided, finish_of}
+use Rattle.vdm_legal.specs.State.{is_request, is_activation, is_finish}
+use Rattle.vdm_legal.proofs.Counting.{counted, counted-more, counted-one, adds, adds-none, adds-here}
+use Rattle.vdm_legal.proofs.Journals.{finish-last}
 
 -- what a deed gives a variable is a number or nothing
 abbrev pub KeepsNumbers : Deed → Type 0
@@ -19,11 +23,13 @@ KeepsNumbers (deed.New class slots) = Each IsNumberSlot slots
 KeepsNumbers (deed.Write pairs refused) = Each IsNumberPair pairs
 KeepsNumbers _ = Unit {0}
 
--- of each name on each object there are at most as many activations as requests, and as finishes activations
+-- of each name on each object there are at most as many activations as requests, and as finishes activations; values are numbers,
+-- and the run is not finished
 pub record IsSane (entries : List Entry) : Type 0 where
   pub begun : (o : ℕ) (name : Name) → counted (is_activation name) o entries ≤ counted (is_request name) o entries
   pub done : (o : ℕ) (name : Name) → counted (is_finish name) o entries ≤ counted (is_activation name) o entries
   pub numbers : Each (λ (e : Entry). KeepsNumbers e.deed) entries
+  pub unfinished : finish_of entries ≡ None
 
 -- the later entries are the earlier ones and more, by which requests, activations and finishes rise alike
 pub record IsWithin (first later : List Entry) : Type 0 where
@@ -42,6 +48,18 @@ within-then a b c h k = record {
   begun = λ o name. omega (arith, h.begun o name, k.begun o name);
   done = λ o name. omega (arith, h.done o name, k.done o name);
 }
+
+more-there : {X : Type 0} (xs ys : List X) → xs ≢ [] → xs ++ ys ≢ []
+more-there [] ys h e = h refl
+more-there (x ∷ xs) ys h e = cc
+
+-- an object on which something stands has it behind further entries too
+pub there-on : (o : ℕ) (before more after : List Entry) → after ≡ before ++ more → object_part o before ≢ [] → object_part o after ≢ []
+there-on o before more after e there none =
+    more-there (object_part o before) (object_part o more) there (sym (filter-append (is_on o) before more) ∙ ap (object_part o) (sym e) ∙ none)
+
+pub sane-start : IsSane []
+sane-start = record { begun = λ o name. omega arith; done = λ o name. omega arith; numbers = tt; unfinished = refl }
 
 each-more : (before : List Entry) (e : Entry) → Each (λ (e : Entry). KeepsNumbers e.deed) before → KeepsNumbers e.deed → Each (λ (e : Entry). KeepsNumbers e.deed) (before ++ e ∷ [])
 each-more [] e h k = (k, tt)
@@ -96,11 +114,12 @@ module _ (before : List Entry) (me : ℕ) (d : Deed) (quiet : IsQuiet d) where
     finished = counted-off (is_finish name) me o d before (quiet name).2;
   }
 
-  pub quiet-sane : IsSane before → KeepsNumbers d → IsSane (before ++ entry Main me d ∷ [])
-  quiet-sane sane numbers = record {
+  pub quiet-sane : IsSane before → KeepsNumbers d → decided Main d ≡ None → IsSane (before ++ entry Main me d ∷ [])
+  quiet-sane sane numbers undecided = record {
     begun = λ o name. let t = quiet-tally o name in omega (arith, sane.begun o name, t.requested, t.activated);
     done = λ o name. let t = quiet-tally o name in omega (arith, sane.done o name, t.activated, t.finished);
     numbers = each-more before (entry Main me d) sane.numbers numbers;
+    unfinished = finish-last before (entry Main me d) sane.unfinished ∙ undecided;
   }
 
   pub quiet-within : IsWithin before (before ++ entry Main me d ∷ [])
@@ -128,6 +147,7 @@ module _ (before : List Entry) (me : ℕ) (op : OpRef) (sane : IsSane before) wh
     begun = λ o name. let t = req-tally before me op o name in omega (arith, sane.begun o name, t.requested, t.activated);
     done = λ o name. let t = req-tally before me op o name in omega (arith, sane.done o name, t.activated, t.finished);
     numbers = each-more before (entry Main me (deed.Req op)) sane.numbers tt;
+    unfinished = finish-last before (entry Main me (deed.Req op)) sane.unfinished;
   }
 
   pub act-waits : counted (is_activation op.name) me (behind_request before me op) < counted (is_request op.name) me (behind_request before me op)
@@ -138,6 +158,7 @@ module _ (before : List Entry) (me : ℕ) (op : OpRef) (sane : IsSane before) wh
     begun = λ o name. let t = req-tally before me op o name in let s = act-tally (behind_request before me op) me op o name in omega (arith, sane.begun o name, t.requested, t.activated, s.requested, s.activated);
     done = λ o name. let t = req-tally before me op o name in let s = act-tally (behind_request before me op) me op o name in omega (arith, sane.done o name, t.activated, t.finished, s.activated, s.finished);
     numbers = each-more (behind_request before me op) (entry Main me (deed.Act op)) request-sane.numbers tt;
+    unfinished = finish-last (behind_request before me op) (entry Main me (deed.Act op)) request-sane.unfinished;
   }
 
   module _ (after : List Entry) (within : IsWithin (behind_activation before me op) after) where
@@ -156,6 +177,7 @@ module _ (before : List Entry) (me : ℕ) (op : OpRef) (sane : IsSane before) wh
           let u = fin-tally after me op o name in
           omega (arith, sane.done o name, t.activated, t.finished, s.activated, s.finished, within.begun o name, within.done o name, u.activated, u.finished);
       numbers = each-more after (entry Main me (deed.Fin op)) still.numbers tt;
+      unfinished = finish-last after (entry Main me (deed.Fin op)) still.unfinished;
     }
 
     pub finished-within : IsWithin before (behind_finish after me op)

@@ -1,5 +1,5 @@
 -- What one entry more does to the answers, the end, the order and the parts of a list of entries.
-use Rattle.std.proofs.Common.{◌≡◌, ℕ, ◌≤◌, List, [], ◌∷◌, ◌++◌, map, Option, Some, None, refl, sym, ap, ◌∙◌, subst, append_assoc, append-nil, arith, if◌then◌else◌}
+use Rattle.std.proofs.Common.{◌≡◌, ℕ, ◌≤◌, List, [], ◌∷◌, ◌++◌, map, Option, Some, None, IfSome, refl, sym, ap, ◌∙◌, subst, append_assoc, append-nil, arith, if◌then◌else◌}
 use Rattle.std.proofs.lemmas.Bool.{ne_eqb}
 use Rattle.std.proofs.lemmas.List.{map-append}
 use Rattle.std.proofs.lemmas.List.Elements.{filter-append}
@@ -13,17 +13,16 @@ use Rattle.run_journal.specs.declared.answer.Answer.TheVariants.{Done, Object, R
 use Rattle.run_journal.specs.Made.{answer_of, made, question_of}
 use Rattle.run_journal.specs.Parts.{is_by, object_part, thread_part}
 use Rattle.run_journal.specs.Threads.{is_thread}
-use Rattle.vdm_meaning.specs.Order.{IsNumbered, AreNumbered, IsInOrder, above_all, next_number}
-use Rattle.vdm_meaning.specs.Runs.{decided, finish_of, first_of}
+use Rattle.vdm_legal.specs.Order.{IsNumbered, AreNumbered, IsInOrder, above_all, next_number}
+use Rattle.vdm_legal.specs.Finishes.{decided, finish_of, first_of}
 
 -- ---- what an entry was made of
 
 -- main's entry for a question and its answer gives both back
-abbrev pub IsMadeOf : Question → Answer → Option Entry → Type 0
-IsMadeOf q a None = Unit {0}
-IsMadeOf q a (Some e) = (e.thread ≡ Main) × (question_of e ≡ q) × (answer_of e ≡ a)
+abbrev IsMadeOf : Question → Answer → Entry → Type 0
+IsMadeOf q a e = (e.thread ≡ Main) × (question_of e ≡ q) × (answer_of e ≡ a)
 
-made-is : (q : Question) (a : Answer) → IsMadeOf q a (made Main q a)
+made-is : (q : Question) (a : Answer) → IfSome (made Main q a) (IsMadeOf q a)
 made-is (Class o class values) Done = (refl, refl, refl)
 made-is (New class values) (Object n) = (refl, refl, refl)
 made-is (Req o op) Done = (refl, refl, refl)
@@ -45,7 +44,7 @@ made-is (Release o k) Done = (refl, refl, refl)
 made-is _ _ = tt
 
 pub made-back : (q : Question) (a : Answer) (e : Entry) → made Main q a ≡ Some e → (e.thread ≡ Main) × (question_of e ≡ q) × (answer_of e ≡ a)
-made-back q a e m = subst (IsMadeOf q a) m (made-is q a)
+made-back q a e m = subst (λ o. IfSome o (IsMadeOf q a)) m (made-is q a)
 
 -- ---- one entry more
 
