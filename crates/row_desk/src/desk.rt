@@ -3,7 +3,7 @@
 ghost use Rattle.std.specs.Prelude.{◌≤◌, length, IfSome};
 
 use row_words::Line;
-use run_journal::{Answer, Deed, Entry, EntryList, Question, Write};
+use run_journal::{Answer, Deed, EntryList, Question, Write};
 use std::alloc::Global;
 use vdm_kinds::{Name, OpRef, VarRef};
 use vdm_names::Names;

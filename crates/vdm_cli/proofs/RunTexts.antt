@@ -1,7 +1,7 @@
 -- What the run of accepted texts says of them, and that what is printed of it has a text.
 use Rattle.std.specs.Prelude.{◌≡◌, ℕ, ◌≤◌, List, [], ◌∷◌, length, map, Option, Some, None, Result, Err}
 use Rattle.std.specs.List.{AllByRecursion as Each}
-use Rattle.std.proofs.Common.{sym, subst, arith, inl, inr}
+use Rattle.std.proofs.Common.{subst, arith, inl, inr}
 use Rattle.abstract_syntax.specs.Classes.{SpecTree}
 use Rattle.abstract_syntax.specs.Expressions.{ExprTree, whole, named, joined, apply, create, select}
 use Rattle.run_journal.specs.declared.deed.Deed.{Deed}
@@ -17,10 +17,8 @@ use Rattle.vdm_kinds.specs.declared.halt.Halt.TheVariants.{Of}
 use Rattle.vdm_kinds.specs.declared.part.Part.TheVariants.{Expr}
 use Rattle.vdm_kinds.specs.declared.spec_fault.SpecFault.{SpecFault}
 use Rattle.vdm_grammar.specs.Texts.{IsSpecification, HasNoTree, IsAccepted, IsFirstRefusal, syntax_fault}
-use Rattle.vdm_meaning.specs.Main.{GivesNoObject, step_limit}
-use Rattle.vdm_legal.specs.Order.{IsInOrder}
+use Rattle.vdm_meaning.specs.Main.{GivesNoObject}
 use Rattle.vdm_legal.specs.Finishes.{Finish, ended, failed, decided, first_of, finish_of}
-use Rattle.vdm_meaning.specs.Runs.{IsRun}
 use Rattle.vdm_tree.specs.declared.class_def.ClassDef.{ClassDef}
 use Rattle.vdm_tree.specs.ClassView.{class_view}
 use Rattle.report_texts.specs.Log.{HasLogLine}
@@ -28,8 +26,7 @@ use Rattle.vdm_report.specs.declared.end.End.{End}
 use Rattle.vdm_report.specs.declared.end.End.TheVariants.{Ended, Refused, Usage, Failed, ReadFault, WriteFault, OutOfMemory}
 use Rattle.vdm_report.specs.Outside.{Outside, IsCalm}
 use Rattle.vdm_cli.specs.Meant.{WasRead, MeansTexts, MeansRun}
-use Rattle.vdm_report.specs.Ends.{HasReportLine}
-use Rattle.vdm_cli.specs.RunEnds.{RunsTo, EndsRun}
+use Rattle.vdm_cli.specs.RunEnds.{RunsTo}
 
 -- no class, or one
 pub one_class : (classes : List ClassDef) → AreClasses (map class_view classes) → length classes ≤ 1

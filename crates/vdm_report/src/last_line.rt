@@ -1,6 +1,6 @@
 // The last line of a report.
 
-ghost use Rattle.std.specs.Prelude.{◌≡◌, ◌++◌, IfOk, OnOk};
+ghost use Rattle.std.specs.Prelude.{◌≡◌, ◌++◌, IfOk};
 ghost use Rattle.std.specs.String.{string_bytes};
 ghost use Rattle.run_journal.specs.Numbers.{IsNumberSlot};
 ghost use Rattle.report_texts.specs.Lines.{refused_line, failed_line, result_line};
