@@ -1,8 +1,6 @@
 pub mod Classes
 pub mod Expressions
-pub mod MapLaws
 pub mod Rising
-pub mod RisingLaws
 pub mod SameBy
 pub mod Statements
 pub mod Types

@@ -19,7 +19,8 @@ same_code _ _ = false
 same_code-decides : (g h : Gv) → Decides (same_code g h) (g ≡ h)
 same_code-decides gnil gnil = (λ _. refl, λ _. refl)
 same_code-decides (gnum m) (gnum n) = Decides-like _ (ap gnum) (ap num) (Decides-eqb m n)
-same_code-decides (gcons a b) (gcons c d) = Decides-like _ (λ p i. gcons (p.0 i) (p.1 i)) (λ e. (cc, cc)) (Decides-and _ _ (same_code-decides a c) (same_code-decides b d))
+same_code-decides (gcons a b) (gcons c d) = Decides-like _ (λ p i. gcons (p.0 i) (p.1 i))
+    (λ e. (cc, cc)) (Decides-and _ _ (same_code-decides a c) (same_code-decides b d))
 same_code-decides _ _ = (λ e. cc, λ e. cc)
 
 -- whether two things have the same code

@@ -3,7 +3,8 @@ use Rattle.std.specs.Prelude.{◌≡◌, ℕ, ℤ, pos, negsuc, Bool, true, fals
 use Rattle.std.specs.Coded.{Coded, code_by}
 use Rattle.std.proofs.Common.{ap, zero, suc}
 use Rattle.vdm_kinds.specs.declared.name.Name.{Name}
-use Rattle.abstract_syntax.specs.Values.{ValueTree, ValueTrees, PairTrees, nil, boolean, number, character, quote, token, tuple, record_of, sequence, set_of, map_of, object, no_values, one_value, no_pairs, one_pair}
+use Rattle.abstract_syntax.specs.Values.{ValueTree, ValueTrees, PairTrees, nil, boolean, number, character, quote, token, tuple}
+use Rattle.abstract_syntax.specs.Values.{record_of, sequence, set_of, map_of, object, no_values, one_value, no_pairs, one_pair}
 use base.Stored.{Gv, gnil, gnum, gcons}
 
 abbrev bit : Bool → ℕ
@@ -88,7 +89,8 @@ of_kind (suc (suc (suc zero))) g vs = character (number_at g)
 of_kind (suc (suc (suc (suc zero)))) g vs = quote (name_at g)
 of_kind (suc (suc (suc (suc (suc zero))))) g vs = token (first_value vs)
 of_kind (suc (suc (suc (suc (suc (suc zero)))))) g vs = tuple vs
-of_kind (suc (suc (suc (suc (suc (suc (suc zero))))))) g vs = record_of (name_at (first g)) (name_at (first (rest g))) (later_values (later_values vs))
+of_kind (suc (suc (suc (suc (suc (suc (suc zero))))))) g vs =
+    record_of (name_at (first g)) (name_at (first (rest g))) (later_values (later_values vs))
 of_kind (suc (suc (suc (suc (suc (suc (suc (suc zero)))))))) g vs = sequence vs
 of_kind (suc (suc (suc (suc (suc (suc (suc (suc (suc zero))))))))) g vs = set_of vs
 of_kind (suc (suc (suc (suc (suc (suc (suc (suc (suc (suc zero)))))))))) g vs = map_of (in_pairs vs)

@@ -4,7 +4,8 @@ use Rattle.std.specs.declared.cmp.Ordering.{Ordering}
 use Rattle.std.specs.declared.cmp.Ordering.TheVariants.{Equal}
 use Rattle.std.specs.Ordering.{nat_cmp, int_cmp, bool_cmp, ordering_then}
 use Rattle.vdm_kinds.specs.declared.name.Name.{Name}
-use Rattle.abstract_syntax.specs.Values.{ValueTree, ValueTrees, PairTrees, nil, boolean, number, character, quote, token, tuple, record_of, sequence, set_of, map_of, object, no_values, one_value, no_pairs, one_pair}
+use Rattle.abstract_syntax.specs.Values.{ValueTree, ValueTrees, PairTrees, nil, boolean, number, character, quote, token, tuple}
+use Rattle.abstract_syntax.specs.Values.{record_of, sequence, set_of, map_of, object, no_values, one_value, no_pairs, one_pair}
 
 -- the kinds rise
 abbrev pub kind_number : ValueTree → ℕ
@@ -38,7 +39,8 @@ by_length m n further = ordering_then (nat_cmp m n) further
 
 abbrev mutual
   -- `false` before `true`; numbers by size, characters by code, quotes by the number of their name, tokens by content; records by
-  -- the class's name, then the type's, then as tuples; tuples, sequences, sets and maps by length, then by the first item that differs; objects by number, then by the class's name
+  -- the class's name, then the type's, then as tuples; tuples, sequences, sets and maps by length, then by the first item
+  -- that differs; objects by number, then by the class's name
   pub value_order : ValueTree → ValueTree → Ordering
   value_order (boolean a) (boolean b) = bool_cmp a b
   value_order (number a) (number b) = int_cmp a b
@@ -46,7 +48,8 @@ abbrev mutual
   value_order (quote a) (quote b) = name_order a b
   value_order (token a) (token b) = value_order a b
   value_order (tuple a) (tuple b) = by_length (count_of a) (count_of b) (items_order a b)
-  value_order (record_of c m a) (record_of d n b) = ordering_then (name_order c d) (ordering_then (name_order m n) (by_length (count_of a) (count_of b) (items_order a b)))
+  value_order (record_of c m a) (record_of d n b) =
+      ordering_then (name_order c d) (ordering_then (name_order m n) (by_length (count_of a) (count_of b) (items_order a b)))
   value_order (sequence a) (sequence b) = by_length (count_of a) (count_of b) (items_order a b)
   value_order (set_of a) (set_of b) = by_length (count_of a) (count_of b) (items_order a b)
   value_order (map_of a) (map_of b) = by_length (count_of_pairs a) (count_of_pairs b) (pair_items_order a b)
@@ -60,5 +63,6 @@ abbrev mutual
 
   -- each pair by key first
   pub pair_items_order : PairTrees → PairTrees → Ordering
-  pair_items_order (one_pair k v ps) (one_pair l w qs) = ordering_then (value_order k l) (ordering_then (value_order v w) (pair_items_order ps qs))
+  pair_items_order (one_pair k v ps) (one_pair l w qs) =
+      ordering_then (value_order k l) (ordering_then (value_order v w) (pair_items_order ps qs))
   pair_items_order a b = Equal

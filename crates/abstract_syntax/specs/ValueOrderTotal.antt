@@ -13,7 +13,8 @@ use Rattle.std.proofs.lemmas.Bool.Decides.{same_from_decides}
 use Rattle.abstract_syntax.specs.SameBy.{same_by, same_by-decides}
 use Rattle.abstract_syntax.specs.ValueCode.{value_code}
 use Rattle.vdm_kinds.specs.declared.name.Name.{Name}
-use Rattle.abstract_syntax.specs.Values.{ValueTree, ValueTrees, PairTrees, nil, boolean, number, character, quote, token, tuple, record_of, sequence, set_of, map_of, object, no_values, one_value, no_pairs, one_pair}
+use Rattle.abstract_syntax.specs.Values.{ValueTree, ValueTrees, PairTrees, nil, boolean, number, character, quote, token, tuple}
+use Rattle.abstract_syntax.specs.Values.{record_of, sequence, set_of, map_of, object, no_values, one_value, no_pairs, one_pair}
 use Rattle.abstract_syntax.specs.ValueOrder.{value_order, items_order, pair_items_order, count_of, count_of_pairs, name_order}
 
 -- ---- two numbers
@@ -55,7 +56,8 @@ then_where_level Equal s t f = f refl
 then_where_level Greater s t f = refl
 
 -- `Less` of two steps is `Less` of both in one
-chained : (r s t p q u : Ordering) → (r ≡ Less → s ≡ Less → t ≡ Less) → (r ≡ Equal → t ≡ s) → (s ≡ Equal → t ≡ r) → (p ≡ Less → q ≡ Less → u ≡ Less) → ordering_then r p ≡ Less → ordering_then s q ≡ Less → ordering_then t u ≡ Less
+chained : (r s t p q u : Ordering) → (r ≡ Less → s ≡ Less → t ≡ Less) → (r ≡ Equal → t ≡ s) → (s ≡ Equal → t ≡ r)
+    → (p ≡ Less → q ≡ Less → u ≡ Less) → ordering_then r p ≡ Less → ordering_then s q ≡ Less → ordering_then t u ≡ Less
 chained Less Less t p q u f g h k d e = ap (λ o. ordering_then o u) (f refl refl)
 chained Less Equal t p q u f g h k d e = ap (λ o. ordering_then o u) (h refl)
 chained Less Greater t p q u f g h k d e = cc
@@ -170,7 +172,9 @@ mutual
   order_by_key (quote a) (quote b) = refl
   order_by_key (token a) (token b) = order_by_key a b
   order_by_key (tuple a) (tuple b) = then_where_level _ _ _ (λ e. items_by_key a b (nat_level _ _ e))
-  order_by_key (record_of c m a) (record_of d n b) = ap (λ o. ordering_then (name_order c d) (ordering_then (name_order m n) o)) (then_where_level _ _ _ (λ e. items_by_key a b (nat_level _ _ e)))
+  order_by_key (record_of c m a) (record_of d n b) =
+      ap (λ o. ordering_then (name_order c d) (ordering_then (name_order m n) o))
+      (then_where_level _ _ _ (λ e. items_by_key a b (nat_level _ _ e)))
   order_by_key (sequence a) (sequence b) = then_where_level _ _ _ (λ e. items_by_key a b (nat_level _ _ e))
   order_by_key (set_of a) (set_of b) = then_where_level _ _ _ (λ e. items_by_key a b (nat_level _ _ e))
   order_by_key (map_of a) (map_of b) = then_where_level _ _ _ (λ e. pairs_by_key a b (nat_level _ _ e))
@@ -183,11 +187,13 @@ mutual
   items_by_key (one_value v vs) no_values e = absurd (omega arith)
   items_by_key (one_value v vs) (one_value w ws) e = λ i. ordering_then (order_by_key v w i) (items_by_key vs ws (omega arith) i)
 
-  pairs_by_key : (ps qs : PairTrees) → count_of_pairs ps ≡ count_of_pairs qs → pair_items_order ps qs ≡ key_order (pairs_key ps) (pairs_key qs)
+  pairs_by_key : (ps qs : PairTrees) → count_of_pairs ps ≡ count_of_pairs qs
+      → pair_items_order ps qs ≡ key_order (pairs_key ps) (pairs_key qs)
   pairs_by_key no_pairs no_pairs e = refl
   pairs_by_key no_pairs (one_pair l w qs) e = absurd (omega arith)
   pairs_by_key (one_pair k v ps) no_pairs e = absurd (omega arith)
-  pairs_by_key (one_pair k v ps) (one_pair l w qs) e = λ i. ordering_then (order_by_key k l i) (ordering_then (order_by_key v w i) (pairs_by_key ps qs (omega arith) i))
+  pairs_by_key (one_pair k v ps) (one_pair l w qs) e =
+      λ i. ordering_then (order_by_key k l i) (ordering_then (order_by_key v w i) (pairs_by_key ps qs (omega arith) i))
 
 -- ---- the laws
 
@@ -200,13 +206,20 @@ mutual
   same_from_order (character a) (character b) e = ap character (nat_level a b e)
   same_from_order (quote a) (quote b) e = ap quote (name_level a b e)
   same_from_order (token a) (token b) e = ap token (same_from_order a b e)
-  same_from_order (tuple a) (tuple b) e = ap tuple (same_items a b (nat_level _ _ (first_level _ _ e)) (second_level (nat_cmp (count_of a) (count_of b)) _ e))
+  same_from_order (tuple a) (tuple b) e = ap tuple
+      (same_items a b (nat_level _ _ (first_level _ _ e)) (second_level (nat_cmp (count_of a) (count_of b)) _ e))
   same_from_order (record_of c m a) (record_of d n b) e =
-      λ i. record_of (name_level c d (first_level _ _ e) i) (name_level m n (first_level _ _ (second_level (name_order c d) _ e)) i) ((same_items a b (nat_level _ _ (first_level _ _ (second_level (name_order m n) _ (second_level (name_order c d) _ e)))) (second_level (nat_cmp (count_of a) (count_of b)) _ (second_level (name_order m n) _ (second_level (name_order c d) _ e)))) i)
-  same_from_order (sequence a) (sequence b) e = ap sequence (same_items a b (nat_level _ _ (first_level _ _ e)) (second_level (nat_cmp (count_of a) (count_of b)) _ e))
-  same_from_order (set_of a) (set_of b) e = ap set_of (same_items a b (nat_level _ _ (first_level _ _ e)) (second_level (nat_cmp (count_of a) (count_of b)) _ e))
-  same_from_order (map_of a) (map_of b) e = ap map_of (same_pairs a b (nat_level _ _ (first_level _ _ e)) (second_level (nat_cmp (count_of_pairs a) (count_of_pairs b)) _ e))
-  same_from_order (object m c) (object n d) e = λ i. object (nat_level m n (first_level _ _ e) i) (name_level c d (second_level (nat_cmp m n) _ e) i)
+      λ i. record_of (name_level c d (first_level _ _ e) i) (name_level m n (first_level _ _ (second_level (name_order c d) _ e)) i)
+          ((same_items a b (nat_level _ _ (first_level _ _ (second_level (name_order m n) _ (second_level (name_order c d) _ e))))
+          (second_level (nat_cmp (count_of a) (count_of b)) _ (second_level (name_order m n) _ (second_level (name_order c d) _ e)))) i)
+  same_from_order (sequence a) (sequence b) e = ap sequence
+      (same_items a b (nat_level _ _ (first_level _ _ e)) (second_level (nat_cmp (count_of a) (count_of b)) _ e))
+  same_from_order (set_of a) (set_of b) e = ap set_of
+      (same_items a b (nat_level _ _ (first_level _ _ e)) (second_level (nat_cmp (count_of a) (count_of b)) _ e))
+  same_from_order (map_of a) (map_of b) e = ap map_of
+      (same_pairs a b (nat_level _ _ (first_level _ _ e)) (second_level (nat_cmp (count_of_pairs a) (count_of_pairs b)) _ e))
+  same_from_order (object m c) (object n d) e = λ i. object (nat_level m n (first_level _ _ e) i)
+      (name_level c d (second_level (nat_cmp m n) _ e) i)
   same_from_order a b e = absurd (true≢false (sym (ap is_eq e)))
 
   same_items : (vs ws : ValueTrees) → count_of vs ≡ count_of ws → items_order vs ws ≡ Equal → vs ≡ ws
@@ -221,7 +234,9 @@ mutual
   same_pairs no_pairs (one_pair l w qs) h e = absurd (omega arith)
   same_pairs (one_pair k v ps) no_pairs h e = absurd (omega arith)
   same_pairs (one_pair k v ps) (one_pair l w qs) h e =
-      λ i. one_pair (same_from_order k l (first_level _ _ e) i) (same_from_order v w (first_level _ _ (second_level (value_order k l) _ e)) i) (same_pairs ps qs (omega arith) (second_level (value_order v w) _ (second_level (value_order k l) _ e)) i)
+      λ i. one_pair (same_from_order k l (first_level _ _ e) i)
+          (same_from_order v w (first_level _ _ (second_level (value_order k l) _ e)) i)
+          (same_pairs ps qs (omega arith) (second_level (value_order v w) _ (second_level (value_order k l) _ e)) i)
 
 pub order_of_itself : (v : ValueTree) → value_order v v ≡ Equal
 order_of_itself v = order_by_key v v ∙ key_itself (key_of v)
@@ -234,13 +249,15 @@ order_chains u v w p q =
     order_by_key u w ∙ key_chains (key_of u) (key_of v) (key_of w) (sym (order_by_key u v) ∙ p) (sym (order_by_key v w) ∙ q)
 
 pub value_order_total : IsTotalOrder value_order
-value_order_total = record { antisymm = order_turns; trans = order_chains; congr = λ v w u e. ap (λ x. value_order x u) (same_from_order v w e) }
+value_order_total = record { antisymm = order_turns; trans = order_chains; congr =
+    λ v w u e. ap (λ x. value_order x u) (same_from_order v w e) }
 
 pub equal_where_same : (v w : ValueTree) → value_order v w ≡ Equal ↔ v ≡ w
 equal_where_same v w = (same_from_order v w, λ e. ap (value_order v) (sym e) ∙ order_of_itself v)
 
 level-decides : (v w : ValueTree) → Decides (eq_by_cmp value_order v w) (v ≡ w)
-level-decides v w = (λ t. same_from_order v w ((Equal-is (value_order v w)).0 t), λ e. (Equal-is (value_order v w)).1 ((equal_where_same v w).1 e))
+level-decides v w = (λ t. same_from_order v w ((Equal-is (value_order v w)).0 t), λ e. (Equal-is (value_order v w)).1
+    ((equal_where_same v w).1 e))
 
 -- `==` holds of what the order does not tell apart
 pub same_by-order : (v w : ValueTree) → same_by value_code v w ≡ eq_by_cmp value_order v w

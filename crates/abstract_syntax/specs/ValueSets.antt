@@ -4,7 +4,9 @@ use Rattle.std.specs.Bool.{⊤}
 use Rattle.std.specs.declared.cmp.Ordering.{Ordering}
 use Rattle.std.specs.Ordering.{ordering_then, on}
 use Rattle.std.specs.List.Sorted.{IsStrictlySortedBy}
-use Rattle.abstract_syntax.specs.Values.{ValueTree, ValueTrees, PairTrees, nil, boolean, number, character, quote, token, tuple, record_of, sequence, set_of, map_of, object, no_values, one_value, no_pairs, one_pair, value_trees, value_list, pair_trees, pair_list, nodes_of, depth_of}
+use Rattle.abstract_syntax.specs.Values.{ValueTree, ValueTrees, PairTrees, nil, boolean, number, character, quote, token, tuple}
+use Rattle.abstract_syntax.specs.Values.{record_of, sequence, set_of, map_of, object, no_values, one_value, no_pairs, one_pair}
+use Rattle.abstract_syntax.specs.Values.{value_trees, value_list, pair_trees, pair_list, nodes_of, depth_of}
 use Rattle.abstract_syntax.specs.ValueOrder.{value_order}
 use Rattle.abstract_syntax.specs.Rising.{rising}
 

@@ -48,8 +48,10 @@ FindsOperations index definitions = (n : ℕ) → option_map (λ r. r.now) (get 
 pub layout-prop : (layout : List (Bor VarDef)) (class : ClassDef) → IsProp (at layout ≡ variables_of class)
 layout-prop layout class = Coded-set (coded_list variable.the_row.coded) (at layout) (variables_of class)
 
-pub FindsVariables-prop : {S : Type 0} (index : IndexMap ℕ (Bor VarDef) S) (definitions : List VarDef) → IsProp (FindsVariables index definitions)
+pub FindsVariables-prop : {S : Type 0} (index : IndexMap ℕ (Bor VarDef) S) (definitions : List VarDef)
+    → IsProp (FindsVariables index definitions)
 FindsVariables-prop index definitions = Π_prop (λ n. Coded-set (coded_option variable.the_row.coded) _ _)
 
-pub FindsOperations-prop : {S : Type 0} (index : IndexMap ℕ (Bor OpDef) S) (definitions : List OpDef) → IsProp (FindsOperations index definitions)
+pub FindsOperations-prop : {S : Type 0} (index : IndexMap ℕ (Bor OpDef) S) (definitions : List OpDef)
+    → IsProp (FindsOperations index definitions)
 FindsOperations-prop index definitions = Π_prop (λ n. Coded-set (coded_option operation.the_row.coded) _ _)

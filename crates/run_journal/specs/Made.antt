@@ -5,7 +5,8 @@ use Rattle.run_journal.specs.declared.deed.Deed.{Deed}
 use Rattle.run_journal.specs.declared.deed.Deed.TheVariants as deed
 use Rattle.run_journal.specs.declared.entry.Entry.{Entry}
 use Rattle.run_journal.specs.declared.question.Question.{Question}
-use Rattle.run_journal.specs.declared.question.Question.TheVariants.{Class, New, Req, Act, Fin, Read, Write, Start, Print, Host, Time, End, Fail, Tick, Release}
+use Rattle.run_journal.specs.declared.question.Question.TheVariants.{Class, New, Req, Act, Fin, Read, Write, Start, Print, Host, Time}
+use Rattle.run_journal.specs.declared.question.Question.TheVariants.{End, Fail, Tick, Release}
 use Rattle.run_journal.specs.declared.answer.Answer.{Answer}
 use Rattle.run_journal.specs.declared.answer.Answer.TheVariants.{Done, Object, Refused, Inner, Ticks, Slot as Holds, Host as Hosted}
 use Rattle.run_journal.specs.Threads.{own_object}
@@ -36,7 +37,8 @@ made t Tick Done = Some (entry t 0 deed.Tick)
 made t (Release o k) Done = Some (entry t o (deed.Release k))
 made t _ _ = None
 
--- the answer fits the question: Object for New, Slot for Read, Refused or Done for Write and Start, Inner or Done for Act, Host for Host, Ticks for Time, else Done
+-- the answer fits the question: Object for New, Slot for Read, Refused or Done for Write and Start, Inner or Done for Act,
+-- Host for Host, Ticks for Time, else Done
 abbrev pub Fits : Question → Answer → Type 0
 Fits (New _ _) (Object _) = ⊤
 Fits (New _ _) _ = ⊥

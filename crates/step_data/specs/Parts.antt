@@ -6,7 +6,8 @@ use Rattle.vdm_tree.specs.View.{view_of}
 use Rattle.vdm_tree.specs.StmtView.{stmt_view, stmt_trees, stmt_views}
 use Rattle.vdm_tree.specs.ClassView.{operation_view}
 use Rattle.vdm_tree.specs.declared.stmt.Stmt.{Stmt}
-use Rattle.vdm_meaning.specs.Tasks.{Env as MeantEnv, outside, inside, Task as MeantTask, expr_in, call_in, stmt_in, Flow as MeantFlow, gave, next, returned}
+use Rattle.vdm_meaning.specs.Tasks.{Env as MeantEnv, outside, inside, Task as MeantTask, expr_in, call_in, stmt_in, Flow as MeantFlow}
+use Rattle.vdm_meaning.specs.Tasks.{gave, next, returned}
 use Rattle.vdm_meaning.specs.Calls.{Wanted as MeantWanted, a_value, no_value}
 use Rattle.step_data.specs.declared.call.Call.{Call}
 use Rattle.step_data.specs.declared.call.Wanted.{Wanted}

@@ -1,12 +1,14 @@
 -- What the names of a specification stand for: members that differ, variables in sums and before `:=`, and operations that are
 -- called; and where a value is returned.
-use Rattle.std.specs.Prelude.{Bool, true, false, ◌&&◌, not, if◌then◌else◌, List, [], ◌∷◌, ◌++◌, map, filter, is_none, is_some, Option, Some, None, option_and_then}
+use Rattle.std.specs.Prelude.{Bool, true, false, ◌&&◌, not, if◌then◌else◌, List, [], ◌∷◌, ◌++◌, map, filter, is_none, is_some, Option}
+use Rattle.std.specs.Prelude.{Some, None, option_and_then}
 use Rattle.std.specs.List.{list_any, list_all}
 use Rattle.vdm_kinds.specs.NameList.{io}
 use Rattle.vdm_kinds.specs.declared.name.Name.{Name}
 use Rattle.abstract_syntax.specs.Expressions.{ExprTree, whole, named, joined, apply, create, select}
 use Rattle.abstract_syntax.specs.Statements.{TargetTree, variable, StmtTree, StmtTrees, assign, call, block, returns, no_stmts, one_stmt}
-use Rattle.abstract_syntax.specs.Classes.{VariableTree, OperationTree, ClassTree, SpecTree, is_same_name, class_variables, class_operations, operation_named, class_named}
+use Rattle.abstract_syntax.specs.Classes.{VariableTree, OperationTree, ClassTree, SpecTree, is_same_name, class_variables}
+use Rattle.abstract_syntax.specs.Classes.{class_operations, operation_named, class_named}
 
 abbrev pub is_among : Name → List Name → Bool
 is_among name names = list_any (is_same_name name) names
@@ -32,7 +34,8 @@ scope_of class = record {
 
 -- the names of the members, variables before operations
 abbrev pub member_names : ClassTree → List Name
-member_names class = map (λ (v : VariableTree). v.name) (class_variables class) ++ map (λ (o : OperationTree). o.name) (class_operations class)
+member_names class =
+    map (λ (v : VariableTree). v.name) (class_variables class) ++ map (λ (o : OperationTree). o.name) (class_operations class)
 
 -- each name in a sum is a variable
 abbrev pub is_over : List Name → ExprTree → Bool
@@ -76,7 +79,8 @@ is_return scope _ = false
 abbrev pub end_in_return : Scope → StmtTrees → Bool
 end_in_return scope no_stmts = false
 end_in_return scope (one_stmt statement no_stmts) = is_return scope statement
-end_in_return scope (one_stmt statement (one_stmt next statements)) = is_plain scope statement && end_in_return scope (one_stmt next statements)
+end_in_return scope (one_stmt statement (one_stmt next statements)) =
+    is_plain scope statement && end_in_return scope (one_stmt next statements)
 
 -- a block that ends in a return, and returns nowhere else
 abbrev pub is_returning : Scope → StmtTree → Bool
@@ -90,7 +94,8 @@ is_body scope o = if has_no_result o then is_plain scope o.body else is_returnin
 -- the members' names differ from each other and from the class's name, which is not `IO`
 abbrev pub is_bound_class : ClassTree → Bool
 is_bound_class class =
-    not (is_same_name class.name io) && are_different (class.name ∷ member_names class) && list_all (is_body (scope_of class)) (class_operations class)
+    not (is_same_name class.name io) && are_different (class.name ∷ member_names class)
+        && list_all (is_body (scope_of class)) (class_operations class)
 
 abbrev pub is_bound : SpecTree → Bool
 is_bound spec = list_all is_bound_class spec.classes
@@ -102,5 +107,6 @@ has_operation spec class name = is_some (option_and_then (λ (c : ClassTree). op
 -- behind a specification an expression's names stand for what their places want: no name in a sum stands for anything, and
 -- what is called of a new object is one of the operations of its class
 abbrev pub is_bound_in : SpecTree → ExprTree → Bool
-is_bound_in spec (apply (select (create class class_place arguments new_place) name name_place dot) others place) = has_operation spec class name
+is_bound_in spec (apply (select (create class class_place arguments new_place) name name_place dot) others place) =
+    has_operation spec class name
 is_bound_in spec tree = is_over [] tree

@@ -1,5 +1,6 @@
 -- The lexemes of a text: words and signs, of which white space stands round any. The longest that stands at a place is taken.
-use Rattle.std.specs.Prelude.{ℕ, zero, suc, ◌-◌, ℤ, Bool, ◌||◌, ◌==◌, if◌then◌else◌, List, [], ◌∷◌, length, take_while, Option, Some, None, option_map}
+use Rattle.std.specs.Prelude.{ℕ, zero, suc, ◌-◌, ℤ, Bool, ◌||◌, ◌==◌, if◌then◌else◌, List, [], ◌∷◌, length, take_while, Option, Some}
+use Rattle.std.specs.Prelude.{None, option_map}
 use Rattle.vdm_kinds.specs.declared.part.Part.{Part}
 use Rattle.vdm_kinds.specs.declared.place.Place.{Place}
 use Rattle.vdm_grammar.specs.declared.mark.Mark.{Mark}
@@ -48,7 +49,8 @@ front_of text = sign_or_word (sign_at text) text
 -- a lexeme before those of the text behind it, of which the characters that are left of the lexeme are skipped
 abbrev pub front_before : Option Front → Place → (ℕ → Option (List Lexeme)) → Option (List Lexeme)
 front_before None place behind = None
-front_before (Some front) place behind = option_map (λ (lexemes : List Lexeme). record { kind = front.kind; place = place } ∷ lexemes) (behind (front.length - 1))
+front_before (Some front) place behind = option_map
+    (λ (lexemes : List Lexeme). record { kind = front.kind; place = place } ∷ lexemes) (behind (front.length - 1))
 
 -- the lexemes of a text that begins at a place, behind as many characters as are skipped
 abbrev pub lexemes_behind : Place → ℕ → List ℕ → Option (List Lexeme)

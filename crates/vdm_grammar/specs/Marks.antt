@@ -2,7 +2,8 @@
 use Rattle.std.specs.Prelude.{ℕ, Bool, false, nat_eq, bytes_eq, if◌then◌else◌, List, codes, Option, Some, None}
 use Rattle.std.specs.List.{starts_with}
 use Rattle.vdm_grammar.specs.declared.mark.Mark.{Mark}
-use Rattle.vdm_grammar.specs.declared.mark.Mark.TheVariants.{Class, End, Instance, Nat, New, Operations, Public, Return, Variables, Becomes, Close, Colon, Defined, Dot, Gives, Open, Plus, Semicolon}
+use Rattle.vdm_grammar.specs.declared.mark.Mark.TheVariants.{Class, End, Instance, Nat, New, Operations, Public, Return, Variables}
+use Rattle.vdm_grammar.specs.declared.mark.Mark.TheVariants.{Becomes, Close, Colon, Defined, Dot, Gives, Open, Plus, Semicolon}
 use Rattle.vdm_grammar.specs.declared.token.TokenKind.{TokenKind}
 use Rattle.vdm_grammar.specs.declared.token.TokenKind.TheVariants as kind
 

@@ -82,7 +82,8 @@ abbrev pub sum_on : ℕ → ExprTree → List Token → Read ExprTree
 sum_on zero left tokens = choice (mark_in mark.Plus tokens) (λ (place : Place) (behind : List Token). None) (Some (left, tokens))
 sum_on (suc room) left tokens =
     choice (mark_in mark.Plus tokens)
-    (λ (place : Place) (behind : List Token). onto (term_in behind) (λ (right : ExprTree) (rest : List Token). sum_on room (joined left operator_plus right place) rest))
+    (λ (place : Place) (behind : List Token). onto (term_in behind)
+        (λ (right : ExprTree) (rest : List Token). sum_on room (joined left operator_plus right place) rest))
     (Some (left, tokens))
 
 -- a sum of at most as many terms as there is room for
@@ -116,7 +117,8 @@ call_on target tokens =
 
 -- the statement that a name begins: an assignment, or a call, which nests three nodes
 abbrev pub assigned : ℕ → NameAt → Place → List Token → Read StmtTree
-assigned room target equals tokens = onto (sum_in room tokens) (λ (value : ExprTree) (rest : List Token). Some (assign (variable target.name target.place) value target.place, rest))
+assigned room target equals tokens = onto (sum_in room tokens)
+    (λ (value : ExprTree) (rest : List Token). Some (assign (variable target.name target.place) value target.place, rest))
 
 abbrev pub call_closed : NameAt → Place → Place → List Token → Read StmtTree
 call_closed head bracket close tokens = Some (call (apply (named head.name head.place) no_exprs bracket) head.place, tokens)
@@ -127,7 +129,8 @@ called (suc zero) head bracket tokens = None
 called (suc (suc room)) head bracket tokens = onto (mark_in mark.Close tokens) (call_closed head bracket)
 
 abbrev pub named_stmt : ℕ → NameAt → List Token → Read StmtTree
-named_stmt room first tokens = choice (mark_in mark.Becomes tokens) (assigned room first) (onto (mark_in mark.Open tokens) (called room first))
+named_stmt room first tokens = choice (mark_in mark.Becomes tokens) (assigned room first)
+    (onto (mark_in mark.Open tokens) (called room first))
 
 -- statements with a `;` between each two, behind those that were read: at most as many as there are turns
 abbrev pub stmts_on : (List Token → Read StmtTree) → ℕ → List StmtTree → List Token → Read (List StmtTree)
@@ -143,7 +146,8 @@ as_trees [] = no_stmts
 as_trees (s ∷ ss) = one_stmt s (as_trees ss)
 
 abbrev pub block_closed : Place → List StmtTree → List Token → Read StmtTree
-block_closed bracket statements tokens = onto (mark_in mark.Close tokens) (λ (close : Place) (rest : List Token). Some (block [] (as_trees statements) bracket, rest))
+block_closed bracket statements tokens = onto (mark_in mark.Close tokens)
+    (λ (close : Place) (rest : List Token). Some (block [] (as_trees statements) bracket, rest))
 
 abbrev pub returned : Place → ExprTree → List Token → Read StmtTree
 returned place value tokens = Some (returns (Some value) place, tokens)
@@ -171,14 +175,16 @@ variable_in tokens =
     onto (mark_in mark.Becomes c) (λ (becomes : Place) (d : List Token).
     onto (literal_in d) (λ (value : ExprTree) (e : List Token).
     onto (mark_in mark.Semicolon e) (λ (semicolon : Place) (f : List Token).
-    Some (record { access = private_access; name = name.name; name_place = name.place; declared = declared; initial = Some value; place = name.place }, f)))))))
+    Some (record { access = private_access; name = name.name; name_place = name.place; declared = declared; initial =
+        Some value; place = name.place }, f)))))))
 
 -- variables, behind those that were read: at most as many as there are turns, and as long as a name comes next
 abbrev pub variables_on : ℕ → List VariableTree → List Token → Read (List VariableTree)
 variables_on zero read tokens = None
 variables_on (suc turns) read tokens =
     onto (variable_in tokens) (λ (variable : VariableTree) (rest : List Token).
-    choice (name_in rest) (λ (name : NameAt) (behind : List Token). variables_on turns (read ++ variable ∷ []) rest) (Some (read ++ variable ∷ [], rest)))
+    choice (name_in rest) (λ (name : NameAt) (behind : List Token). variables_on turns (read ++ variable ∷ []) rest)
+        (Some (read ++ variable ∷ [], rest)))
 
 -- the type of a result, or brackets where there is no result
 abbrev pub result_in : List Token → Read (Option TypeTree)
@@ -210,14 +216,16 @@ operation_in tokens =
     onto (name_in a) (λ (name : NameAt) (b : List Token).
     onto (signature_in b) (λ (result_type : Option TypeTree) (c : List Token).
     onto (definition_in name.name c) (λ (body : StmtTree) (d : List Token).
-    Some (record { access = public_access; name = name.name; name_place = name.place; result_type = result_type; body = body; place = place }, d)))))
+    Some (record { access = public_access; name = name.name; name_place = name.place; result_type = result_type; body = body; place =
+        place }, d)))))
 
 -- operations, behind those that were read: at most as many as there are turns, and as long as `public` comes next
 abbrev pub operations_on : ℕ → List OperationTree → List Token → Read (List OperationTree)
 operations_on zero read tokens = None
 operations_on (suc turns) read tokens =
     onto (operation_in tokens) (λ (operation : OperationTree) (rest : List Token).
-    choice (mark_in mark.Public rest) (λ (place : Place) (behind : List Token). operations_on turns (read ++ operation ∷ []) rest) (Some (read ++ operation ∷ [], rest)))
+    choice (mark_in mark.Public rest) (λ (place : Place) (behind : List Token). operations_on turns (read ++ operation ∷ []) rest)
+        (Some (read ++ operation ∷ [], rest)))
 
 -- ---- classes
 
@@ -270,7 +278,8 @@ spec_of (token ∷ tokens) = option_map (λ (class : ClassTree). record { classe
 
 -- an expression: a call of an operation of a new object where it begins with `new`, else a sum
 abbrev pub expr_in : List Token → Read ExprTree
-expr_in tokens = choice (mark_in mark.New tokens) (λ (place : Place) (rest : List Token). onto (new_in place rest) call_on) (sum_in depth_limit tokens)
+expr_in tokens = choice (mark_in mark.New tokens) (λ (place : Place) (rest : List Token). onto (new_in place rest) call_on)
+    (sum_in depth_limit tokens)
 
 abbrev pub expr_of : List Token → Option ExprTree
 expr_of tokens = whole_of (expr_in tokens)

@@ -45,7 +45,8 @@ expr_spelling (whole n place) = at (Whole n) place ∷ []
 expr_spelling (named name place) = at (Name name) place ∷ []
 expr_spelling (joined left operator right place) = expr_spelling left ++ sign_at_place mark.Plus place ∷ expr_spelling right
 expr_spelling (apply head arguments place) = expr_spelling head ++ sign_at_place mark.Open place ∷ sign mark.Close ∷ []
-expr_spelling (create class class_place arguments place) = sign_at_place mark.New place ∷ at (Name class) class_place ∷ sign mark.Open ∷ sign mark.Close ∷ []
+expr_spelling (create class class_place arguments place) =
+    sign_at_place mark.New place ∷ at (Name class) class_place ∷ sign mark.Open ∷ sign mark.Close ∷ []
 expr_spelling (select target name name_place place) = expr_spelling target ++ sign_at_place mark.Dot place ∷ at (Name name) name_place ∷ []
 
 abbrev pub target_spelling : TargetTree → List Written
@@ -100,7 +101,8 @@ operation_spelling o =
     ++ sign mark.Semicolon ∷ []
 
 abbrev pub block_spelling : BlockTree → List Written
-block_spelling (variables definitions place) = sign_at_place mark.Instance place ∷ sign mark.Variables ∷ flat_map variable_spelling definitions
+block_spelling (variables definitions place) = sign_at_place mark.Instance place ∷ sign mark.Variables ∷ flat_map variable_spelling
+    definitions
 block_spelling (operations definitions place) = sign_at_place mark.Operations place ∷ flat_map operation_spelling definitions
 
 -- the name behind `end` is the first again

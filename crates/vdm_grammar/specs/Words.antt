@@ -1,5 +1,6 @@
 -- The words of a text: identifiers, whole literals and reserved words.
-use Rattle.std.specs.Prelude.{ℕ, ◌^◌, ℤ, pos, Bool, false, ◌&&◌, ◌||◌, not, ◌==◌, nat_eq, nat_lt, bytes_eq, if◌then◌else◌, List, [], ◌∷◌, length, drop, codes, Option, Some, None}
+use Rattle.std.specs.Prelude.{ℕ, ◌^◌, ℤ, pos, Bool, false, ◌&&◌, ◌||◌, not, ◌==◌, nat_eq, nat_lt, bytes_eq, if◌then◌else◌, List, [], ◌∷◌}
+use Rattle.std.specs.Prelude.{length, drop, codes, Option, Some, None}
 use Rattle.std.specs.Char.{digit_value, is_ascii_alphabetic, is_ascii_alphanumeric}
 use Rattle.std.specs.List.{list_all, list_any, starts_with}
 use Rattle.std.specs.Str.Parse.{digits_value}
@@ -50,7 +51,8 @@ begins_with_letter (c ∷ cs) = is_ascii_alphabetic c
 
 -- whether a word is an identifier: it begins with a letter, and is no word that means something else
 abbrev pub is_identifier : List ℕ → Bool
-is_identifier word = begins_with_letter word && not (is_form word) && not (is_word_in word reserved_words) && not (is_word_in word left_out_words)
+is_identifier word = begins_with_letter word && not (is_form word) && not (is_word_in word reserved_words)
+    && not (is_word_in word left_out_words)
 
 -- one digit of the base or more, and nothing else
 abbrev pub is_number_in : ℕ → List ℕ → Bool

@@ -23,7 +23,8 @@ tree_of_text text = option_and_then tree_of_lexemes (lexemes_of Spec text)
 
 -- the tree that an expression's text has behind these names, where it has one, bound or not
 abbrev pub tree_behind : List (List ℕ) → List ℕ → Option ExprTree
-tree_behind first text = option_and_then (λ (lexemes : List Lexeme). expr_of (tokens_with (names_behind first lexemes) lexemes)) (lexemes_of Expr text)
+tree_behind first text = option_and_then (λ (lexemes : List Lexeme). expr_of (tokens_with (names_behind first lexemes) lexemes))
+    (lexemes_of Expr text)
 
 -- whether an expression's text is bound in the specification of a text, where both have trees
 abbrev pub is_bound_behind : List ℕ → List ℕ → Option Bool

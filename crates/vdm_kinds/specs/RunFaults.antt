@@ -1,7 +1,10 @@
 -- The faults of a run: one table of their numbers and names.
 use Rattle.std.specs.Prelude.{ℕ, List, codes}
 use Rattle.vdm_kinds.specs.declared.run_fault.RunFault.{RunFault}
-use Rattle.vdm_kinds.specs.declared.run_fault.RunFault.TheVariants.{Overflow, DivideByZero, TypeFault, TypeInvariant, InstanceInvariant, Pre, Post, NoMatch, NotInDomain, EmptyOperand, MapConflict, Undefined, UncaughtExit, NotUnique, NotSet, SizeLimit, StepLimit, GuardFault, NoThread, StartedTwice, HostRefused, NoReturn, ExponentRange}
+use Rattle.vdm_kinds.specs.declared.run_fault.RunFault.TheVariants.{Overflow, DivideByZero, TypeFault, TypeInvariant, InstanceInvariant}
+use Rattle.vdm_kinds.specs.declared.run_fault.RunFault.TheVariants.{Pre, Post, NoMatch, NotInDomain, EmptyOperand, MapConflict, Undefined}
+use Rattle.vdm_kinds.specs.declared.run_fault.RunFault.TheVariants.{UncaughtExit, NotUnique, NotSet, SizeLimit, StepLimit, GuardFault}
+use Rattle.vdm_kinds.specs.declared.run_fault.RunFault.TheVariants.{NoThread, StartedTwice, HostRefused, NoReturn, ExponentRange}
 use Rattle.vdm_kinds.specs.FaultRow.{FaultRow, row}
 
 -- the table: the number and the name of each

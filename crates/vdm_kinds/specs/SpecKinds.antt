@@ -1,7 +1,9 @@
 -- The faults of a text: one table of their numbers and names.
 use Rattle.std.specs.Prelude.{ℕ, List, codes}
 use Rattle.vdm_kinds.specs.declared.spec_kind.SpecKind.{SpecKind}
-use Rattle.vdm_kinds.specs.declared.spec_kind.SpecKind.TheVariants.{LexFault, SyntaxFault, TooDeep, TooLong, LeftOut, UnknownName, Duplicate, Cycle, Ambiguous, NotVisible, WrongArity, NoCommonValue, GuardReach, InitReach, NotSynchronised}
+use Rattle.vdm_kinds.specs.declared.spec_kind.SpecKind.TheVariants.{LexFault, SyntaxFault, TooDeep, TooLong, LeftOut, UnknownName}
+use Rattle.vdm_kinds.specs.declared.spec_kind.SpecKind.TheVariants.{Duplicate, Cycle, Ambiguous, NotVisible, WrongArity, NoCommonValue}
+use Rattle.vdm_kinds.specs.declared.spec_kind.SpecKind.TheVariants.{GuardReach, InitReach, NotSynchronised}
 use Rattle.vdm_kinds.specs.FaultRow.{FaultRow, row}
 
 -- the table: the number and the name of each

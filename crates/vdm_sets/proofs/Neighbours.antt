@@ -3,9 +3,9 @@ use Rattle.std.proofs.Common.{◌≡◌, ℕ, zero, suc, ◌+◌, ◌-◌, ◌<�
 use Rattle.std.proofs.lemmas.List.Elements.{Contains-get_or}
 use Rattle.std.specs.declared.cmp.Ordering.TheVariants.{Less}
 use Rattle.std.specs.List.Sorted.{IsStrictlySortedBy}
-use Rattle.abstract_syntax.specs.RisingLaws.{all_at, all_from, not_below_itself}
+use Rattle.abstract_syntax.proofs.RisingLaws.{all_at, all_from, not_below_itself}
 use Rattle.abstract_syntax.specs.ValueSets.{Entry, pair_order, key_order, HasConflict}
-use Rattle.abstract_syntax.specs.MapLaws.{pair_order_total, key_order_total, pair_same, less_by_key, no_conflict_by_key}
+use Rattle.abstract_syntax.proofs.MapLaws.{pair_order_total, key_order_total, pair_same, less_by_key, no_conflict_by_key}
 
 rises_by_key : (ps : List Entry) → IsStrictlySortedBy pair_order ps → ((k : ℕ) (d : Entry) → suc k < length ps → (get_or ps k d).0 ≡ (get_or ps (suc k) d).0 → ⊥) → IsStrictlySortedBy key_order ps
 unfolding IsStrictlySortedBy

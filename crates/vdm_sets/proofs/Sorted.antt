@@ -10,7 +10,7 @@ use Rattle.std.proofs.lemmas.List.Filters.{dedup_is}
 use Rattle.std.proofs.lemmas.List.Kept.{IsStrictlySortedBy-dedup, Contains-dedup, Contains-from_dedup}
 use Rattle.std.proofs.lemmas.List.Sorted.{Contains-permutation, IsPermutation-sym}
 use Rattle.abstract_syntax.specs.Rising.{rising}
-use Rattle.abstract_syntax.specs.RisingLaws.{rising_is}
+use Rattle.abstract_syntax.proofs.RisingLaws.{rising_is}
 
 module _ {X : Type 0} {cmp : X → X → Ordering} (o : IsTotalOrder cmp) (same : (x y : X) → cmp x y ≡ Equal → x ≡ y) {E : X → X → Bool} (ties : (x y : X) → E x y ≡ eq_by_cmp cmp x y) where
   equal_items : (x y : X) → E x y ≡ true → x ≡ y

@@ -2,7 +2,8 @@
 use Rattle.std.specs.Prelude.{List, [], ◌∷◌, map, option_map, Box}
 use Rattle.abstract_syntax.specs.Expressions.{ExprTree}
 use Rattle.abstract_syntax.specs.Types.{TypeTree, nat}
-use Rattle.abstract_syntax.specs.Statements.{TargetTree, variable, DclTree, StmtTree, StmtTrees, assign, call, block, returns, no_stmts, one_stmt}
+use Rattle.abstract_syntax.specs.Statements.{TargetTree, variable, DclTree, StmtTree, StmtTrees, assign, call, block, returns, no_stmts}
+use Rattle.abstract_syntax.specs.Statements.{one_stmt}
 use Rattle.vdm_tree.specs.declared.dcl.Dcl.{Dcl}
 use Rattle.vdm_tree.specs.declared.expr.Expr.{Expr}
 use Rattle.vdm_tree.specs.declared.stmt.Stmt.{Stmt, fold-Stmt}

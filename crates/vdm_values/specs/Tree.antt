@@ -1,7 +1,8 @@
 -- The tree that a node stands for.
 use Rattle.vdm_values.specs.declared.value.Node.{Node}
 use Rattle.vdm_values.specs.declared.value.Node.TheVariants.{Nil, Bool, Int, Char, Quote, Token, Tuple, Rec, Seq, Set, Map, Object}
-use Rattle.abstract_syntax.specs.Values.{ValueTree, nil, boolean, number, character, quote, token, tuple, record_of, sequence, set_of, map_of, object, value_trees, pair_trees}
+use Rattle.abstract_syntax.specs.Values.{ValueTree, nil, boolean, number, character, quote, token, tuple, record_of, sequence, set_of}
+use Rattle.abstract_syntax.specs.Values.{map_of, object, value_trees, pair_trees}
 
 abbrev pub tree_of : Node → ValueTree
 tree_of Nil = nil

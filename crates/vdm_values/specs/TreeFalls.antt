@@ -14,7 +14,8 @@ most_le-nodes_of_values [] = omega arith
 most_le-nodes_of_values (v ∷ vs) = omega (arith, most_le-nodes_of_values vs)
 
 -- no key and no value of a list of pairs has more nodes than all of them together
-pub most_le-nodes_of_pairs : (ps : List (ValueTree × ValueTree)) → most (λ p. max (nodes_of p.0 + 1) (max (nodes_of p.1 + 1) 0)) ps ≤ nodes_of_pairs (pair_trees ps) + 1
+pub most_le-nodes_of_pairs : (ps : List (ValueTree × ValueTree)) → most
+    (λ p. max (nodes_of p.0 + 1) (max (nodes_of p.1 + 1) 0)) ps ≤ nodes_of_pairs (pair_trees ps) + 1
 most_le-nodes_of_pairs [] = omega arith
 most_le-nodes_of_pairs (p ∷ ps) = omega (arith, most_le-nodes_of_pairs ps)
 

@@ -1,5 +1,5 @@
-use Rattle.abstract_syntax.specs.RisingLaws.{rising_keeps}
-use Rattle.abstract_syntax.specs.MapLaws.{pair_order_total, pair_same, map_rises, map_once, no_map}
+use Rattle.abstract_syntax.proofs.RisingLaws.{rising_keeps}
+use Rattle.abstract_syntax.proofs.MapLaws.{pair_order_total, pair_same, map_rises, map_once, no_map}
 use Rattle.abstract_syntax.proofs.sets.maps_are_told_by_their_pairs.Goals as goal
 
 pub returns-clause-rises : goal.returns-clause-rises

@@ -1,4 +1,4 @@
-use Rattle.abstract_syntax.specs.RisingLaws.{rising_rises, rising_keeps, rising_once}
+use Rattle.abstract_syntax.proofs.RisingLaws.{rising_rises, rising_keeps, rising_once}
 use Rattle.abstract_syntax.specs.ValueOrderTotal.{value_order_total, same_from_order}
 use Rattle.abstract_syntax.proofs.sets.sets_are_told_by_their_members.Goals as goal
 

@@ -3,9 +3,9 @@ use Rattle.std.proofs.lemmas.Result.{IfOk-weaker}
 use Rattle.std.specs.List.Sorted.{IsStrictlySortedBy}
 use Rattle.abstract_syntax.specs.Values.{map_of, pair_trees}
 use Rattle.abstract_syntax.specs.Rising.{rising}
-use Rattle.abstract_syntax.specs.RisingLaws.{rising_rises, rising_keeps}
+use Rattle.abstract_syntax.proofs.RisingLaws.{rising_rises, rising_keeps}
 use Rattle.abstract_syntax.specs.ValueSets.{Entry, pair_order, HasConflict, IsWithinLimits, IsTooLarge}
-use Rattle.abstract_syntax.specs.MapLaws.{pair_order_total, pair_same, conflict_moves}
+use Rattle.abstract_syntax.proofs.MapLaws.{pair_order_total, pair_same, conflict_moves}
 use Rattle.vdm_sets.proofs.map.map_from.Goals as goal
 
 in_order : (xs ys : List Entry) → ys ≡ rising pair_order xs → IsStrictlySortedBy pair_order ys

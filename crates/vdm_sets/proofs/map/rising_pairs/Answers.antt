@@ -8,7 +8,7 @@ use Rattle.abstract_syntax.specs.ValueCode.{value_code}
 use Rattle.abstract_syntax.specs.ValueOrder.{value_order}
 use Rattle.abstract_syntax.specs.ValueOrderTotal.{same_by-order}
 use Rattle.abstract_syntax.specs.ValueSets.{Entry, pair_order}
-use Rattle.abstract_syntax.specs.MapLaws.{pair_order_total, pair_same}
+use Rattle.abstract_syntax.proofs.MapLaws.{pair_order_total, pair_same}
 use Rattle.vdm_sets.proofs.Sorted.{rising_from_sort, refilled}
 use Rattle.vdm_sets.proofs.map.rising_pairs.Goals as goal
 

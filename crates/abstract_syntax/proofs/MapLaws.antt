@@ -11,7 +11,7 @@ use Rattle.abstract_syntax.specs.Values.{ValueTree, value_trees, pair_trees, val
 use Rattle.abstract_syntax.specs.ValueOrder.{value_order}
 use Rattle.abstract_syntax.specs.ValueOrderTotal.{value_order_total, same_from_order, order_of_itself}
 use Rattle.abstract_syntax.specs.Rising.{rising}
-use Rattle.abstract_syntax.specs.RisingLaws.{In, in_from_contains, contains_from_in, all_at, all_from, not_below_itself, Less≢Equal, rising_rises, rising_keeps, rising_once}
+use Rattle.abstract_syntax.proofs.RisingLaws.{In, in_from_contains, contains_from_in, all_at, all_from, not_below_itself, Less≢Equal, rising_rises, rising_keeps, rising_once}
 use Rattle.abstract_syntax.specs.ValueSets.{Entry, pair_order, key_order, set_value, map_value, HasConflict, IsCanonical, AreCanonical, AreCanonicalPairs}
 
 pub pair_order_total : IsTotalOrder pair_order
