@@ -175,8 +175,8 @@ variable_in tokens =
     onto (mark_in mark.Becomes c) (λ (becomes : Place) (d : List Token).
     onto (literal_in d) (λ (value : ExprTree) (e : List Token).
     onto (mark_in mark.Semicolon e) (λ (semicolon : Place) (f : List Token).
-    Some (record { access = private_access; name = name.name; name_place = name.place; declared = declared; initial =
-        Some value; place = name.place }, f)))))))
+    Some (record { access = private_access; name = name.name; name_place = name.place; declared = declared;
+        initial = Some value; place = name.place }, f)))))))
 
 -- variables, behind those that were read: at most as many as there are turns, and as long as a name comes next
 abbrev pub variables_on : ℕ → List VariableTree → List Token → Read (List VariableTree)
@@ -216,8 +216,8 @@ operation_in tokens =
     onto (name_in a) (λ (name : NameAt) (b : List Token).
     onto (signature_in b) (λ (result_type : Option TypeTree) (c : List Token).
     onto (definition_in name.name c) (λ (body : StmtTree) (d : List Token).
-    Some (record { access = public_access; name = name.name; name_place = name.place; result_type = result_type; body = body; place =
-        place }, d)))))
+    Some (record { access = public_access; name = name.name; name_place = name.place; result_type = result_type;
+        body = body; place = place }, d)))))
 
 -- operations, behind those that were read: at most as many as there are turns, and as long as `public` comes next
 abbrev pub operations_on : ℕ → List OperationTree → List Token → Read (List OperationTree)

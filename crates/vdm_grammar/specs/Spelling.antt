@@ -101,8 +101,8 @@ operation_spelling o =
     ++ sign mark.Semicolon ∷ []
 
 abbrev pub block_spelling : BlockTree → List Written
-block_spelling (variables definitions place) = sign_at_place mark.Instance place ∷ sign mark.Variables ∷ flat_map variable_spelling
-    definitions
+block_spelling (variables definitions place) =
+    sign_at_place mark.Instance place ∷ sign mark.Variables ∷ flat_map variable_spelling definitions
 block_spelling (operations definitions place) = sign_at_place mark.Operations place ∷ flat_map operation_spelling definitions
 
 -- the name behind `end` is the first again
