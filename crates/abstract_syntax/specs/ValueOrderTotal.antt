@@ -210,8 +210,8 @@ mutual
       (same_items a b (nat_level _ _ (first_level _ _ e)) (second_level (nat_cmp (count_of a) (count_of b)) _ e))
   same_from_order (record_of c m a) (record_of d n b) e =
       λ i. record_of (name_level c d (first_level _ _ e) i) (name_level m n (first_level _ _ (second_level (name_order c d) _ e)) i)
-          ((same_items a b (nat_level _ _ (first_level _ _ (second_level (name_order m n) _ (second_level (name_order c d) _ e))))
-          (second_level (nat_cmp (count_of a) (count_of b)) _ (second_level (name_order m n) _ (second_level (name_order c d) _ e)))) i)
+      ((same_items a b (nat_level _ _ (first_level _ _ (second_level (name_order m n) _ (second_level (name_order c d) _ e))))
+      (second_level (nat_cmp (count_of a) (count_of b)) _ (second_level (name_order m n) _ (second_level (name_order c d) _ e)))) i)
   same_from_order (sequence a) (sequence b) e = ap sequence
       (same_items a b (nat_level _ _ (first_level _ _ e)) (second_level (nat_cmp (count_of a) (count_of b)) _ e))
   same_from_order (set_of a) (set_of b) e = ap set_of
@@ -235,8 +235,8 @@ mutual
   same_pairs (one_pair k v ps) no_pairs h e = absurd (omega arith)
   same_pairs (one_pair k v ps) (one_pair l w qs) h e =
       λ i. one_pair (same_from_order k l (first_level _ _ e) i)
-          (same_from_order v w (first_level _ _ (second_level (value_order k l) _ e)) i)
-          (same_pairs ps qs (omega arith) (second_level (value_order v w) _ (second_level (value_order k l) _ e)) i)
+      (same_from_order v w (first_level _ _ (second_level (value_order k l) _ e)) i)
+      (same_pairs ps qs (omega arith) (second_level (value_order v w) _ (second_level (value_order k l) _ e)) i)
 
 pub order_of_itself : (v : ValueTree) → value_order v v ≡ Equal
 order_of_itself v = order_by_key v v ∙ key_itself (key_of v)
@@ -249,15 +249,22 @@ order_chains u v w p q =
     order_by_key u w ∙ key_chains (key_of u) (key_of v) (key_of w) (sym (order_by_key u v) ∙ p) (sym (order_by_key v w) ∙ q)
 
 pub value_order_total : IsTotalOrder value_order
-value_order_total = record { antisymm = order_turns; trans = order_chains; congr =
-    λ v w u e. ap (λ x. value_order x u) (same_from_order v w e) }
+value_order_total = record {
+  antisymm = order_turns;
+  trans = order_chains;
+  congr =
+      λ v w u e. ap (λ x. value_order x u) (same_from_order v w e);
+}
 
 pub equal_where_same : (v w : ValueTree) → value_order v w ≡ Equal ↔ v ≡ w
 equal_where_same v w = (same_from_order v w, λ e. ap (value_order v) (sym e) ∙ order_of_itself v)
 
 level-decides : (v w : ValueTree) → Decides (eq_by_cmp value_order v w) (v ≡ w)
-level-decides v w = (λ t. same_from_order v w ((Equal-is (value_order v w)).0 t), λ e. (Equal-is (value_order v w)).1
-    ((equal_where_same v w).1 e))
+level-decides v w = (
+  λ t. same_from_order v w ((Equal-is (value_order v w)).0 t),
+  λ e. (Equal-is (value_order v w)).1
+      ((equal_where_same v w).1 e),
+)
 
 -- `==` holds of what the order does not tell apart
 pub same_by-order : (v w : ValueTree) → same_by value_code v w ≡ eq_by_cmp value_order v w

@@ -95,7 +95,7 @@ is_body scope o = if has_no_result o then is_plain scope o.body else is_returnin
 abbrev pub is_bound_class : ClassTree → Bool
 is_bound_class class =
     not (is_same_name class.name io) && are_different (class.name ∷ member_names class)
-        && list_all (is_body (scope_of class)) (class_operations class)
+    && list_all (is_body (scope_of class)) (class_operations class)
 
 abbrev pub is_bound : SpecTree → Bool
 is_bound spec = list_all is_bound_class spec.classes

@@ -83,7 +83,7 @@ sum_on zero left tokens = choice (mark_in mark.Plus tokens) (λ (place : Place) 
 sum_on (suc room) left tokens =
     choice (mark_in mark.Plus tokens)
     (λ (place : Place) (behind : List Token). onto (term_in behind)
-        (λ (right : ExprTree) (rest : List Token). sum_on room (joined left operator_plus right place) rest))
+    (λ (right : ExprTree) (rest : List Token). sum_on room (joined left operator_plus right place) rest))
     (Some (left, tokens))
 
 -- a sum of at most as many terms as there is room for
@@ -175,8 +175,17 @@ variable_in tokens =
     onto (mark_in mark.Becomes c) (λ (becomes : Place) (d : List Token).
     onto (literal_in d) (λ (value : ExprTree) (e : List Token).
     onto (mark_in mark.Semicolon e) (λ (semicolon : Place) (f : List Token).
-    Some (record { access = private_access; name = name.name; name_place = name.place; declared = declared;
-        initial = Some value; place = name.place }, f)))))))
+    Some (
+      record {
+        access = private_access;
+        name = name.name;
+        name_place = name.place;
+        declared = declared;
+        initial = Some value;
+        place = name.place;
+      },
+      f,
+    )))))))
 
 -- variables, behind those that were read: at most as many as there are turns, and as long as a name comes next
 abbrev pub variables_on : ℕ → List VariableTree → List Token → Read (List VariableTree)
@@ -184,7 +193,7 @@ variables_on zero read tokens = None
 variables_on (suc turns) read tokens =
     onto (variable_in tokens) (λ (variable : VariableTree) (rest : List Token).
     choice (name_in rest) (λ (name : NameAt) (behind : List Token). variables_on turns (read ++ variable ∷ []) rest)
-        (Some (read ++ variable ∷ [], rest)))
+    (Some (read ++ variable ∷ [], rest)))
 
 -- the type of a result, or brackets where there is no result
 abbrev pub result_in : List Token → Read (Option TypeTree)
@@ -216,8 +225,17 @@ operation_in tokens =
     onto (name_in a) (λ (name : NameAt) (b : List Token).
     onto (signature_in b) (λ (result_type : Option TypeTree) (c : List Token).
     onto (definition_in name.name c) (λ (body : StmtTree) (d : List Token).
-    Some (record { access = public_access; name = name.name; name_place = name.place; result_type = result_type;
-        body = body; place = place }, d)))))
+    Some (
+      record {
+        access = public_access;
+        name = name.name;
+        name_place = name.place;
+        result_type = result_type;
+        body = body;
+        place = place;
+      },
+      d,
+    )))))
 
 -- operations, behind those that were read: at most as many as there are turns, and as long as `public` comes next
 abbrev pub operations_on : ℕ → List OperationTree → List Token → Read (List OperationTree)
@@ -225,7 +243,7 @@ operations_on zero read tokens = None
 operations_on (suc turns) read tokens =
     onto (operation_in tokens) (λ (operation : OperationTree) (rest : List Token).
     choice (mark_in mark.Public rest) (λ (place : Place) (behind : List Token). operations_on turns (read ++ operation ∷ []) rest)
-        (Some (read ++ operation ∷ [], rest)))
+    (Some (read ++ operation ∷ [], rest)))
 
 -- ---- classes
 

@@ -10,12 +10,24 @@ use Rattle.vdm_tree.specs.declared.spec.Spec.{Spec}
 use Rattle.vdm_tree.specs.StmtView.{type_view, boxed_view, stmt_view}
 
 abbrev pub variable_view : VarDef → VariableTree
-variable_view v = record { access = v.access; name = v.name; name_place = v.name_place; declared = type_view v.declared;
-    initial = option_map boxed_view v.initial; place = v.place }
+variable_view v = record {
+  access = v.access;
+  name = v.name;
+  name_place = v.name_place;
+  declared = type_view v.declared;
+  initial = option_map boxed_view v.initial;
+  place = v.place;
+}
 
 abbrev pub operation_view : OpDef → OperationTree
-operation_view o = record { access = o.access; name = o.name; name_place = o.name_place;
-    result_type = option_map type_view o.result_type; body = stmt_view o.body.value; place = o.place }
+operation_view o = record {
+  access = o.access;
+  name = o.name;
+  name_place = o.name_place;
+  result_type = option_map type_view o.result_type;
+  body = stmt_view o.body.value;
+  place = o.place;
+}
 
 abbrev pub block_view : Block → BlockTree
 block_view (Variables definitions place) = variables (map variable_view definitions.items) place
