@@ -3,7 +3,7 @@ use Rattle.std.specs.Prelude.{◌≡◌, ℕ, nat_eq, List, [], map, Option, opt
 use Rattle.std.specs.Borrow.{Bor}
 use Rattle.std.specs.List.{find}
 use Rattle.std.specs.Coded.{Coded-set, coded_list, coded_option, Π_prop}
-use Rattle.indexmap.specs.IndexMap.{IndexMap, get}
+use Rattle.std.specs.HashMap.{HashMap, get}
 use Rattle.vdm_tree.specs.declared.class_def.VarDef.{VarDef}
 use Rattle.vdm_tree.specs.declared.class_def.OpDef.{OpDef}
 use Rattle.vdm_tree.specs.declared.class_def.Block.{Block}
@@ -38,20 +38,20 @@ abbrev pub operation_numbered : List OpDef → ℕ → Option OpDef
 operation_numbered definitions n = find (λ (o : OpDef). nat_eq n o.name.0) definitions
 
 -- the index finds the first definition of each name
-abbrev pub FindsVariables : {S : Type 0} → IndexMap ℕ (Bor VarDef) S → List VarDef → Type 0
+abbrev pub FindsVariables : {S : Type 0} → HashMap ℕ (Bor VarDef) S → List VarDef → Type 0
 FindsVariables index definitions = (n : ℕ) → option_map (λ r. r.now) (get nat_eq index n) ≡ variable_numbered definitions n
 
-abbrev pub FindsOperations : {S : Type 0} → IndexMap ℕ (Bor OpDef) S → List OpDef → Type 0
+abbrev pub FindsOperations : {S : Type 0} → HashMap ℕ (Bor OpDef) S → List OpDef → Type 0
 FindsOperations index definitions = (n : ℕ) → option_map (λ r. r.now) (get nat_eq index n) ≡ operation_numbered definitions n
 
 -- there is at most one proof of each of these
 pub layout-prop : (layout : List (Bor VarDef)) (class : ClassDef) → IsProp (at layout ≡ variables_of class)
 layout-prop layout class = Coded-set (coded_list variable.the_row.coded) (at layout) (variables_of class)
 
-pub FindsVariables-prop : {S : Type 0} (index : IndexMap ℕ (Bor VarDef) S) (definitions : List VarDef)
+pub FindsVariables-prop : {S : Type 0} (index : HashMap ℕ (Bor VarDef) S) (definitions : List VarDef)
     → IsProp (FindsVariables index definitions)
 FindsVariables-prop index definitions = Π_prop (λ n. Coded-set (coded_option variable.the_row.coded) _ _)
 
-pub FindsOperations-prop : {S : Type 0} (index : IndexMap ℕ (Bor OpDef) S) (definitions : List OpDef)
+pub FindsOperations-prop : {S : Type 0} (index : HashMap ℕ (Bor OpDef) S) (definitions : List OpDef)
     → IsProp (FindsOperations index definitions)
 FindsOperations-prop index definitions = Π_prop (λ n. Coded-set (coded_option operation.the_row.coded) _ _)

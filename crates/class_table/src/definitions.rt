@@ -3,8 +3,8 @@
 ghost use Rattle.std.specs.Prelude.{◌≡◌, ◌++◌, IfOk, OnOk};
 ghost use Rattle.class_table.specs.Definitions.{at, variables_in, operations_in, variables_of, operations_of, FindsVariables, FindsOperations};
 
-use indexmap::IndexMap;
 use std::alloc::Global;
+use std::collections::HashMap;
 use vdm_kinds::OutOfMemory;
 use vdm_tree::{Block, ClassDef, OpDef, VarDef};
 
@@ -56,10 +56,10 @@ fn push_operations<'t>(operations: &mut Vec<&'t OpDef>, block: &'t Block) -> Res
 pub fn variable_index<'t>(
     alloc: Global,
     variables: &[&'t VarDef],
-) -> Result<IndexMap<u32, &'t VarDef>, OutOfMemory>
+) -> Result<HashMap<u32, &'t VarDef>, OutOfMemory>
     ensures { IfOk result (λ index. FindsVariables index (at variables.now)) }
 {
-    let mut index = IndexMap::new(alloc);
+    let mut index = HashMap::new(alloc);
     for variable in variables {
         if !index.contains_key(&variable.name.0) {
             index.insert(variable.name.0, *variable)?;
@@ -72,10 +72,10 @@ pub fn variable_index<'t>(
 pub fn operation_index<'t>(
     alloc: Global,
     operations: &[&'t OpDef],
-) -> Result<IndexMap<u32, &'t OpDef>, OutOfMemory>
+) -> Result<HashMap<u32, &'t OpDef>, OutOfMemory>
     ensures { IfOk result (λ index. FindsOperations index (at operations.now)) }
 {
-    let mut index = IndexMap::new(alloc);
+    let mut index = HashMap::new(alloc);
     for operation in operations {
         if !index.contains_key(&operation.name.0) {
             index.insert(operation.name.0, *operation)?;

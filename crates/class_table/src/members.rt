@@ -4,8 +4,8 @@ ghost use Rattle.std.specs.Prelude.{◌≡◌};
 ghost use Rattle.class_table.specs.Definitions.{at, variables_of, operations_of, FindsVariables, FindsOperations, layout-prop, FindsVariables-prop, FindsOperations-prop};
 
 use crate::definitions::{operation_index, operations_of, variable_index, variables_of};
-use indexmap::IndexMap;
 use std::alloc::Global;
+use std::collections::HashMap;
 use vdm_kinds::{Name, OutOfMemory};
 use vdm_tree::{ClassDef, OpDef, VarDef};
 
@@ -14,8 +14,8 @@ use vdm_tree::{ClassDef, OpDef, VarDef};
 pub struct Members<'t> {
     class: &'t ClassDef,
     layout: Vec<&'t VarDef>,
-    variables: IndexMap<u32, &'t VarDef>,
-    operations: IndexMap<u32, &'t OpDef>,
+    variables: HashMap<u32, &'t VarDef>,
+    operations: HashMap<u32, &'t OpDef>,
     ghost lays_out: { at layout.items ≡ variables_of class.now } by { layout-prop layout.items class.now },
     ghost finds_variables: { FindsVariables variables (variables_of class.now) } by { FindsVariables-prop variables (variables_of class.now) },
     ghost finds_operations: { FindsOperations operations (operations_of class.now) } by { FindsOperations-prop operations (operations_of class.now) },

@@ -1,5 +1,5 @@
 use Rattle.std.proofs.Common.{◌≡◌, ◌<◌, take, length, nat_eq, is_some, true, false, ap, sym, ◌∙◌, arith}
-use Rattle.indexmap.specs.IndexMap.{get}
+use Rattle.std.specs.HashMap.{get}
 use Rattle.vdm_tree.specs.declared.class_def.OpDef.{OpDef}
 use Rattle.class_table.specs.Definitions.{at, operation_numbered}
 use Rattle.class_table.proofs.Indexing.{take-more, found_first, found_before}
