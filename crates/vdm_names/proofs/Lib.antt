@@ -1,2 +1,2 @@
 pub mod NameLemmas
-pub mod NameViews
+pub mod Numbers
