@@ -6,13 +6,10 @@
 #![tactic(auto)]
 
 mod check;
-mod lane;
-mod log;
-mod row;
 mod runs;
-mod tally;
 
 use check::Plan;
+use lock_lanes::count_by_two;
 use std::alloc::Global;
 use std::io::{self, BufRead, BufReader, ErrorKind, Print};
 use std::rt::Clock;
@@ -46,7 +43,7 @@ fn count<R: Print + Threads + Wait + Sync>(rt: &R, alloc: Global, turns: &str) -
     let Ok(turns) = turns.parse::<u32>() else {
         return println!(rt; "unreadable");
     };
-    match tally::count_by_two(rt, alloc, turns) {
+    match count_by_two(rt, alloc, turns) {
         Some((count, first, second)) => println!(rt; "{count} {first} {second}"),
         None => Err(ErrorKind::OutOfMemory.into()),
     }

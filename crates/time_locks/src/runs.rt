@@ -1,9 +1,9 @@
 //! A run: the locks are made, all lanes note, and the locks are closed.
 ghost use Rattle.std.specs.Prelude.{◌≡◌, ◌<◌, ◌≤◌, IfSome, vec_len};
-ghost use Rattle.time_locks.specs.Rows.{IsRow};
+ghost use Rattle.lock_lanes.specs.Rows.{IsRow};
 
 use crate::check::{Plan, has_all};
-use crate::row::Row;
+use lock_lanes::Row;
 use std::alloc::Global;
 use std::io::{self, ErrorKind};
 use std::rt::Clock;

@@ -1,4 +1,4 @@
-use Rattle.time_locks.specs.Rows.{IsRow}
+use Rattle.lock_lanes.specs.Rows.{IsRow}
 use Rattle.time_locks.proofs.runs.closed.Given as goal
 
 abbrev pub invariant-loop-behind : goal.invariant-loop-behind

@@ -1,5 +1,5 @@
 use Rattle.std.proofs.Common.{◌≡◌, vec_len}
-use Rattle.time_locks.specs.Rows.{IsRow}
+use Rattle.lock_lanes.specs.Rows.{IsRow}
 use Rattle.time_locks.proofs.runs.made.Given as goal
 
 abbrev pub invariant-loop : goal.invariant-loop

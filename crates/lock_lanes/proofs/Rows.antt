@@ -8,7 +8,7 @@ use Rattle.turn_lock.specs.declared.storied.Storied.{Ghosts}
 use Rattle.turn_lock.specs.declared.lock.TurnLock.{TurnLock}
 use Rattle.turn_lock.specs.declared.pass.TurnPass.{TurnPass}
 use Rattle.turn_lock.specs.Passes.{IsPassOf}
-use Rattle.time_locks.specs.Lanes.{ArePassesOf}
+use Rattle.lock_lanes.specs.Lanes.{ArePassesOf}
 
 module _ {V E : Type 0} {g : Ghosts V E} where
   pub pass_at : (locks : List (TurnLock V E)) (passes : List (TurnPass V E g)) (k : ℕ) (l : TurnLock V E) (p : TurnPass V E g) → ArePassesOf locks passes → k < length locks

@@ -15,7 +15,7 @@ pub struct Row {
 }
 
 impl Row {
-    ghost use Rattle.time_locks.specs.Rows.{IsRow};
+    ghost use Rattle.lock_lanes.specs.Rows.{IsRow};
 
     /// So many lanes and no lock. None where there is no memory.
     pub fn new(alloc: Global, count: u32) -> Option<Row>

@@ -1,9 +1,9 @@
 use Rattle.std.proofs.Common.{◌≡◌, ℕ, ◌<◌, ◌≤◌, [], ◌∷◌, ◌++◌, length, get_or, vec_len}
 use Rattle.std.specs.Prelude.{All}
 use Rattle.turn_lock.specs.Passes.{IsPassOf}
-use Rattle.time_locks.specs.declared.lane.Lane.{Lane}
-use Rattle.time_locks.specs.Lanes.{ArePassesOf}
-use Rattle.time_locks.proofs.lane.take_all.Given as goal
+use Rattle.lock_lanes.specs.declared.lane.Lane.{Lane}
+use Rattle.lock_lanes.specs.Lanes.{ArePassesOf}
+use Rattle.lock_lanes.proofs.lane.take_all.Given as goal
 
 abbrev pub invariant-loop-index : goal.invariant-loop-index
 invariant-loop-index l = record {

@@ -1,6 +1,6 @@
 use Rattle.std.proofs.Common.{◌<◌, length}
-use Rattle.time_locks.specs.Lanes.{ArePassesOf}
-use Rattle.time_locks.proofs.lane.Lane.run.Given as goal
+use Rattle.lock_lanes.specs.Lanes.{ArePassesOf}
+use Rattle.lock_lanes.proofs.lane.Lane.run.Given as goal
 
 abbrev pub invariant-loop-number : goal.invariant-loop-number
 invariant-loop-number g l = ArePassesOf l.locks l.self.passes.items × (l.at < length l.locks)

@@ -2,10 +2,10 @@ use Rattle.std.proofs.Common.{◌++◌, ◌∷◌, [], ◌<◌, length, subst, a
 use Rattle.std.specs.Prelude.{All}
 use Rattle.turn_lock.specs.Passes.{IsPassOf}
 use Rattle.turn_lock.proofs.Piles.{all_popped}
-use Rattle.time_locks.specs.declared.lane.Lane.{Lane}
-use Rattle.time_locks.specs.Lanes.{ArePassesOf}
-use Rattle.time_locks.proofs.Turns.{done_set, todo_set}
-use Rattle.time_locks.proofs.lane.give_all.Goals as goal
+use Rattle.lock_lanes.specs.declared.lane.Lane.{Lane}
+use Rattle.lock_lanes.specs.Lanes.{ArePassesOf}
+use Rattle.lock_lanes.proofs.Turns.{done_set, todo_set}
+use Rattle.lock_lanes.proofs.lane.give_all.Goals as goal
 
 pub loop-index-preserved : goal.loop-index-preserved
 loop-index-preserved c =

@@ -1,7 +1,7 @@
 use Rattle.std.proofs.Common.{arith}
 use lib.ListN.{length-replicate}
-use Rattle.time_locks.proofs.Pairs.{new_two, none_left, all_back, noted_by_two}
-use Rattle.time_locks.proofs.tally.count_by_two.Goals as goal
+use Rattle.lock_lanes.proofs.Pairs.{new_two, none_left, all_back, noted_by_two}
+use Rattle.lock_lanes.proofs.tally.count_by_two.Goals as goal
 
 pub join-first-requires-after_bounds : goal.join-first-requires-after_bounds
 join-first-requires-after_bounds g c κs within = new_two _ _ _ _ _ _ c.in_ok-passes.ensures c.in-Ok.ensures.each

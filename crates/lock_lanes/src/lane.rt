@@ -2,7 +2,7 @@
 ghost use Rattle.std.specs.Prelude.{◌≡◌, ◌<◌, length, [], ◌∷◌, ◌++◌, IfSome, All, vec_len};
 ghost use Rattle.turn_lock.specs.Passes.{IsPassOf, turns_left, seen, own};
 ghost use Rattle.turn_lock.specs.Held.{IsTurn};
-ghost use Rattle.time_locks.specs.Lanes.{ArePassesOf};
+ghost use Rattle.lock_lanes.specs.Lanes.{ArePassesOf};
 
 use crate::log::Log;
 use std::alloc::Global;
