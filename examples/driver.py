@@ -93,8 +93,8 @@ These are the instructions:
 A line declares a name once, where the notation first has it, and so behind a specification or expression that comes
 before. `held` alone declares its two names once more, at the end, so that it is told which they are.
 
-**Answers.** They are as in the rows, but for what Rust's `{:?}` shows: a value, a slot, an entry, an answer, a place, a
-thread, a tree or a specification, between two tabs. No tab stands elsewhere. A name is shown by its number, as
+**Answers.** They are as in the rows, but for what is shown as by Rust's `{:?}`: a value, a slot, an entry, an answer, a
+place, a thread, a tree or a specification, between two tabs. No tab stands elsewhere. A name is shown by its number, as
 `Name(5)`. So an answer to instructions, and to `spec` and `expr`, has a last tab, and behind it the texts of all names
 in order, each behind a blank: there are names where the tabs make an even number of pieces. A line that the driver
 cannot read is answered by `unreadable`.

@@ -1,8 +1,8 @@
 """Answers of the driver, put back into the notation of rows. `driver.py` says what both look like.
 
-What Rust's `{:?}` shows is first read into data. What has a name, as `Held(..)` or `Entry { .. }`, is a pair of the
-name and a list of the parts; a bare name has no parts, and `(..)` an empty name. `[..]` is a list, numbers, texts,
-`true` and `false` are themselves, and `Name(5)` is the text of name 5. The names of fields are not kept.
+What is shown, as by Rust's `{:?}`, is first read into data. What has a name, as `Held(..)` or `Entry { .. }`, is a
+pair of the name and a list of the parts; a bare name has no parts, and `(..)` an empty name. `[..]` is a list, numbers,
+texts, `true` and `false` are themselves, and `Name(5)` is the text of name 5. The names of fields are not kept.
 
 Then each kind of node has a function that writes it. It returns pieces: texts, and pairs of a function and a node that
 is still to be written. So nodes may be as deep as they like.
@@ -33,7 +33,7 @@ OTHER_PARTS = {"Spec": "Expr", **dict.fromkeys(["Whole", "Name", "Infix", "Apply
 
 
 class BadAnswer(ValueError):
-    """What should be shown by `{:?}` is not."""
+    """What should be shown as by `{:?}` is not."""
 
 
 def notation_of(answer):

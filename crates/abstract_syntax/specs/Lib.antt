@@ -1,5 +1,7 @@
 pub mod Classes
+pub mod Depth
 pub mod Expressions
+pub mod Literals
 pub mod Rising
 pub mod SameBy
 pub mod Statements

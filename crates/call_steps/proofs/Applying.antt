@@ -3,29 +3,20 @@ use Rattle.std.proofs.Common.{◌≡◌, ◌≤◌, ◌<◌, List, [], ◌∷◌
 use Rattle.vdm_kinds.specs.declared.place.Place.{Place}
 use Rattle.vdm_kinds.specs.declared.run_fault.RunFault.TheVariants.{TypeFault, Undefined}
 use Rattle.abstract_syntax.specs.Classes.{SpecTree, ClassTree}
-use Rattle.abstract_syntax.specs.Expressions.{ExprTree, ExprTrees, whole, named, joined, apply, create, select, no_exprs, one_expr}
+use Rattle.abstract_syntax.specs.Expressions.{ExprTree, ExprTrees, named, select, no_exprs, one_expr}
 use Rattle.vdm_tree.specs.View.{view_of, views_of, expr_trees}
 use Rattle.vdm_tree.specs.declared.expr.Expr.{Expr}
 use Rattle.plans.specs.Plans.{fail}
 use Rattle.vdm_meaning.specs.Faults.{fault_at}
-use Rattle.vdm_meaning.specs.Tasks.{Env, outside, inside}
+use Rattle.vdm_meaning.specs.Tasks.{Env, inside}
 use Rattle.vdm_meaning.specs.Calls.{Wanted, call_plan}
 use Rattle.vdm_meaning.specs.Objects.{new_of}
 
 -- with arguments it fails
 pub with_arguments : (spec : SpecTree) (env : Env) (head first : ExprTree) (others : ExprTrees) (place : Place) (wanted : Wanted) → fail (fault_at TypeFault place) ≡ call_plan spec env head (one_expr first others) place wanted
-with_arguments spec outside (whole n p) first others place wanted = refl
-with_arguments spec outside (named n p) first others place wanted = refl
-with_arguments spec outside (joined a o b p) first others place wanted = refl
-with_arguments spec outside (apply h a p) first others place wanted = refl
-with_arguments spec outside (create c q a p) first others place wanted = refl
-with_arguments spec outside (select t n q p) first others place wanted = refl
-with_arguments spec (inside me class) (whole n p) first others place wanted = refl
 with_arguments spec (inside me class) (named n p) first others place wanted = refl
-with_arguments spec (inside me class) (joined a o b p) first others place wanted = refl
-with_arguments spec (inside me class) (apply h a p) first others place wanted = refl
-with_arguments spec (inside me class) (create c q a p) first others place wanted = refl
-with_arguments spec (inside me class) (select t n q p) first others place wanted = refl
+with_arguments spec env (select t n q p) first others place wanted = refl
+with_arguments spec env _ first others place wanted = refl
 
 pub with_any_arguments : (spec : SpecTree) (env : Env) (head : ExprTree) (arguments : List Expr) (place : Place) (wanted : Wanted) → 1 ≤ length arguments → fail (fault_at TypeFault place) ≡ call_plan spec env head (expr_trees (views_of arguments)) place wanted
 with_any_arguments spec env head [] place wanted some = absurd (omega arith)

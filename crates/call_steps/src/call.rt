@@ -1,14 +1,14 @@
 // Calls of operations.
 
-ghost use Rattle.std.specs.Prelude.{◌≡◌, ◌≤◌, option_map};
+ghost use Rattle.std.specs.Prelude.{◌≡◌, ◌≤◌, option_map, None};
 ghost use Rattle.std.specs.Borrow.{Bor};
 ghost use Rattle.abstract_syntax.specs.Classes.{SpecTree};
 ghost use Rattle.abstract_syntax.specs.Expressions.{named, no_exprs};
-ghost use Rattle.vdm_meaning.specs.Calls.{call_plan, call_found, call_on, activated, ended, left_by, tested, given};
+ghost use Rattle.vdm_meaning.specs.Calls.{call_plan, call_found, call_on, activated, begun, ended, left_by, tested, given};
 ghost use Rattle.vdm_meaning.specs.TaskPlans.{bare_call};
 ghost use Rattle.vdm_tree.specs.View.{view_of, expr_trees, views_of};
 ghost use Rattle.vdm_kinds.specs.declared.place.Place.{Place};
-ghost use Rattle.vdm_tree.specs.StmtView.{type_view};
+ghost use Rattle.vdm_tree.specs.Literals.{type_view};
 ghost use Rattle.vdm_tree.specs.ClassView.{operation_view};
 ghost use Rattle.vdm_tree.specs.declared.class_def.OpDef.{OpDef};
 ghost use Rattle.class_table.specs.Tables.{class_of, table_spec};
@@ -17,9 +17,9 @@ ghost use Rattle.step_data.specs.Steps.{code_of, height};
 
 use class_table::{Members, Table};
 use run_journal::Answer;
-use step_data::{Asking, Call, Env, Flow, Frame, Step, Task, Use, Wanted, expr_place, fits};
+use step_data::{Asking, Call, Env, Flow, Frame, Step, Task, Use, Wanted, fits};
 use vdm_kinds::{Name, Place, RunFault};
-use vdm_tree::{Expr, OpDef, TypeExpr};
+use vdm_tree::{Body, Expr, OpDef, TypeExpr};
 use vdm_values::{Node, Slot, Value};
 
 /// What follows the activation: the body. A permission that failed is a fault at the call.
@@ -30,15 +30,28 @@ pub fn activated<'t>(call: Call<'t>, answer: Answer) -> Step<'t>
     if let Answer::Inner(_) = answer {
         return Step::Fail(RunFault::GuardFault, call.place);
     }
-    let env = Env::Inside(call.me, call.members);
-    Step::Part(Task::Stmt(env, &call.operation.body), Frame::Body(call))
+    begun(call)
+}
+
+/// The body of a call. One that is not there is undefined at the call.
+fn begun<'t>(call: Call<'t>) -> Step<'t>
+    ensures same { (spec : SpecTree) → code_of spec result ≡ begun (call_class call.entry) call.entry.me (call_operation call.entry) call.entry.place (wanted_of call.entry.wanted) (call_operation call.entry).body }
+    ensures falls { height result ≤ 1 }
+{
+    match &call.operation.body {
+        Body::Written(body) => {
+            let env = Env::Inside(call.me, call.members);
+            Step::Part(Task::Stmt(env, body), Frame::Body(call))
+        }
+        _ => Step::Fail(RunFault::Undefined, call.place),
+    }
 }
 
 /// What follows the body: its result is tested, and the call is to end.
 pub fn ended<'t>(call: Call<'t>, flow: Flow) -> Step<'t>
     ensures { (spec : SpecTree) → code_of spec result ≡ ended (call_class call.entry) call.entry.me (call_operation call.entry) call.entry.place (wanted_of call.entry.wanted) (flow_of flow) }
 {
-    match tested(call.operation.result_type, left_by(flow)) {
+    match tested(&call.operation.result_type, left_by(flow)) {
         Ok(slot) => Step::Ask(Asking::Finish(call, slot)),
         Err(fault) => Step::Fail(fault, call.place),
     }
@@ -55,19 +68,35 @@ fn left_by(flow: Flow) -> Slot
 }
 
 /// A result against the declared type: a result that is due has to come, and has to fit; else none may come.
-fn tested(declared: Option<TypeExpr>, slot: Slot) -> Result<Slot, RunFault>
-    ensures { result ≡ tested (option_map type_view declared) slot }
+fn tested(declared: &Option<TypeExpr>, slot: Slot) -> Result<Slot, RunFault>
+    ensures { result ≡ tested (option_map type_view declared.now) slot }
 {
-    match (declared, slot) {
-        (None, Slot::Unset) => Ok(Slot::Unset),
-        (None, Slot::Held(_)) => Err(RunFault::TypeFault),
-        (Some(_), Slot::Unset) => Err(RunFault::NoReturn),
-        (Some(declared), Slot::Held(value)) => tested_value(declared, value),
+    match declared {
+        None => untyped(slot),
+        Some(declared) => typed(declared, slot),
     }
 }
 
-fn tested_value(declared: TypeExpr, value: Value) -> Result<Slot, RunFault>
-    ensures { result ≡ tested (Some (type_view declared)) (Slot.Held value) }
+fn untyped(slot: Slot) -> Result<Slot, RunFault>
+    ensures { result ≡ tested None slot }
+{
+    match slot {
+        Slot::Unset => Ok(Slot::Unset),
+        Slot::Held(_value) => Err(RunFault::TypeFault),
+    }
+}
+
+fn typed(declared: &TypeExpr, slot: Slot) -> Result<Slot, RunFault>
+    ensures { result ≡ tested (Some (type_view declared.now)) slot }
+{
+    match slot {
+        Slot::Unset => Err(RunFault::NoReturn),
+        Slot::Held(value) => tested_value(declared, value),
+    }
+}
+
+fn tested_value(declared: &TypeExpr, value: Value) -> Result<Slot, RunFault>
+    ensures { result ≡ tested (Some (type_view declared.now)) (Slot.Held value) }
 {
     if fits(declared, &value) {
         Ok(Slot::Held(value))
@@ -96,7 +125,7 @@ pub fn bare_call<'t>(env: Env<'t>, tree: &'t Expr) -> Step<'t>
         Expr::Apply(head, arguments, place) => {
             application(env, head, arguments.as_slice(), *place, Wanted::Nothing)
         }
-        _ => Step::Fail(RunFault::TypeFault, expr_place(tree)),
+        _ => Step::Fail(RunFault::TypeFault, tree.place()),
     }
 }
 

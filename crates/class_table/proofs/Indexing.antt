@@ -10,15 +10,17 @@ use Rattle.std.specs.List.{find}
 use Rattle.std.specs.Option.{option_or, option_copied}
 use Rattle.std.specs.Slice.{IsItemAt}
 use Rattle.vdm_kinds.specs.declared.name.Name.{Name}
-use Rattle.abstract_syntax.specs.Classes.{is_same_name, VariableTree, OperationTree, class_variables, variable_named, operation_named, variables_in as tree_variables_in, operations_in as tree_operations_in}
-use Rattle.vdm_tree.specs.ClassView.{variable_view, operation_view, block_view, class_view}
+use Rattle.abstract_syntax.specs.Classes.{is_same_name, VariableTree, OperationTree, class_variables, variable_named, operation_named, variables_among as tree_variables_among, variables_in as tree_variables_in, operations_in as tree_operations_in}
+use Rattle.vdm_tree.specs.ClassView.{variable_view, variable_item_view, operation_view, block_view, class_view}
 use Rattle.vdm_tree.specs.declared.class_def.VarDef.{VarDef}
+use Rattle.vdm_tree.specs.declared.class_def.VariableItem.{VariableItem}
+use Rattle.vdm_tree.specs.declared.class_def.VariableItem.TheVariants.{Variable, Invariant}
 use Rattle.vdm_tree.specs.declared.class_def.OpDef.{OpDef}
 use Rattle.vdm_tree.specs.declared.class_def.Block.{Block}
 use Rattle.vdm_tree.specs.declared.class_def.Block.TheVariants.{Variables, Operations}
 use Rattle.vdm_tree.specs.declared.class_def.ClassDef.{ClassDef}
 use Rattle.class_table.specs.Tables.{variables_at}
-use Rattle.class_table.specs.Definitions.{at, variables_in, operations_in, variables_of, operations_of, variable_numbered, operation_numbered}
+use Rattle.class_table.specs.Definitions.{at, variables_among, variables_in, operations_in, variables_of, operations_of, variable_numbered, operation_numbered}
 
 find-map : {A B : Type 0} (f : A → B) (test : B → Bool) (xs : List A) → option_map f (find (λ a. test (f a)) xs) ≡ find test (map f xs)
 find-map f test [] = refl
@@ -38,13 +40,18 @@ option_map-at f (Some r) = refl
 
 -- ---- the definitions of a class, as trees
 
+variables_among-view : (items : List VariableItem) → map variable_view (variables_among items) ≡ tree_variables_among (map variable_item_view items)
+variables_among-view [] = refl
+variables_among-view (Variable v ∷ items) = ap (λ vs. variable_view v ∷ vs) (variables_among-view items)
+variables_among-view (Invariant condition place ∷ items) = variables_among-view items
+
 variables_in-view : (b : Block) → map variable_view (variables_in b) ≡ tree_variables_in (block_view b)
-variables_in-view (Variables definitions place) = refl
-variables_in-view (Operations definitions place) = refl
+variables_in-view (Variables items place) = variables_among-view items.items
+variables_in-view _ = refl
 
 operations_in-view : (b : Block) → map operation_view (operations_in b) ≡ tree_operations_in (block_view b)
-operations_in-view (Variables definitions place) = refl
 operations_in-view (Operations definitions place) = refl
+operations_in-view _ = refl
 
 blocks-variables : (bs : List Block) → map variable_view (flat_map variables_in bs) ≡ flat_map tree_variables_in (map block_view bs)
 blocks-variables [] = refl

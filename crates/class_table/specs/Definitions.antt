@@ -1,10 +1,12 @@
 -- The definitions of a class as the program holds them, and what it keeps to find them by.
-use Rattle.std.specs.Prelude.{◌≡◌, ℕ, nat_eq, List, [], map, Option, option_map, flat_map}
+use Rattle.std.specs.Prelude.{◌≡◌, ℕ, nat_eq, List, [], ◌∷◌, map, Option, option_map, flat_map}
 use Rattle.std.specs.Borrow.{Bor}
 use Rattle.std.specs.List.{find}
 use Rattle.std.specs.Coded.{Coded-set, coded_list, coded_option, Π_prop}
 use Rattle.std.specs.HashMap.{HashMap, get}
 use Rattle.vdm_tree.specs.declared.class_def.VarDef.{VarDef}
+use Rattle.vdm_tree.specs.declared.class_def.VariableItem.{VariableItem}
+use Rattle.vdm_tree.specs.declared.class_def.VariableItem.TheVariants.{Variable, Invariant}
 use Rattle.vdm_tree.specs.declared.class_def.OpDef.{OpDef}
 use Rattle.vdm_tree.specs.declared.class_def.Block.{Block}
 use Rattle.vdm_tree.specs.declared.class_def.Block.TheVariants.{Variables, Operations}
@@ -12,13 +14,18 @@ use Rattle.vdm_tree.specs.declared.class_def.ClassDef.{ClassDef}
 use Rattle.vdm_tree.specs.contracts.class_def.VarDef as variable
 use Rattle.vdm_tree.specs.contracts.class_def.OpDef as operation
 
+abbrev pub variables_among : List VariableItem → List VarDef
+variables_among [] = []
+variables_among (Variable v ∷ items) = v ∷ variables_among items
+variables_among (Invariant condition place ∷ items) = variables_among items
+
 abbrev pub variables_in : Block → List VarDef
-variables_in (Variables definitions place) = definitions.items
-variables_in (Operations definitions place) = []
+variables_in (Variables items place) = variables_among items.items
+variables_in _ = []
 
 abbrev pub operations_in : Block → List OpDef
-operations_in (Variables definitions place) = []
 operations_in (Operations definitions place) = definitions.items
+operations_in _ = []
 
 abbrev pub variables_of : ClassDef → List VarDef
 variables_of class = flat_map variables_in class.blocks.items

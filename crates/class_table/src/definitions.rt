@@ -6,7 +6,7 @@ ghost use Rattle.class_table.specs.Definitions.{at, variables_in, operations_in,
 use std::alloc::Global;
 use std::collections::HashMap;
 use vdm_kinds::OutOfMemory;
-use vdm_tree::{Block, ClassDef, OpDef, VarDef};
+use vdm_tree::{Block, ClassDef, OpDef, VarDef, VariableItem};
 
 /// The variables of a class in text order.
 pub fn variables_of<'t>(alloc: Global, class: &'t ClassDef) -> Result<Vec<&'t VarDef>, OutOfMemory>
@@ -22,9 +22,11 @@ pub fn variables_of<'t>(alloc: Global, class: &'t ClassDef) -> Result<Vec<&'t Va
 fn push_variables<'t>(variables: &mut Vec<&'t VarDef>, block: &'t Block) -> Result<(), OutOfMemory>
     ensures { OnOk result (at variables.new.items ≡ at variables.old.items ++ variables_in block.now) }
 {
-    if let Block::Variables(definitions, _) = block {
-        for definition in definitions {
-            variables.push(definition)?;
+    if let Block::Variables(items, _) = block {
+        for item in items {
+            if let VariableItem::Variable(definition) = item {
+                variables.push(definition)?;
+            }
         }
     }
     Ok(())

@@ -12,6 +12,7 @@ pub fn applied(operator: Operator, left: &Value, right: &Value) -> Result<Value,
 {
     match operator {
         Operator::Plus => sum_of(left, right),
+        _ => Err(RunFault::TypeFault),
     }
 }
 

@@ -2,11 +2,12 @@
 use Rattle.std.proofs.Common.{◌≡◌, Bool, true, false, ◌&&◌, not, if◌then◌else◌, List, [], ◌∷◌, ◌++◌, Option, Some, None, refl, ap, sym, ◌∙◌}
 use Rattle.std.specs.List.{list_all}
 use Rattle.vdm_kinds.specs.declared.name.Name.{Name}
-use Rattle.abstract_syntax.specs.Expressions.{ExprTree, whole, named, joined, apply, create, select}
+use Rattle.abstract_syntax.specs.Literals.{whole_literal}
+use Rattle.abstract_syntax.specs.Expressions.{ExprTree, literal, named, joined, apply}
 use Rattle.abstract_syntax.specs.Statements.{TargetTree, variable, StmtTree, StmtTrees, assign, call, block, returns, no_stmts, one_stmt}
 use Rattle.vdm_kinds.specs.NameList.{io}
-use Rattle.abstract_syntax.specs.Classes.{OperationTree, ClassTree, is_same_name, class_operations}
-use Rattle.vdm_grammar.specs.Binding.{Scope, is_among, is_over, is_target, is_called, is_value, is_plain, are_plain, end_in_return, is_return, is_returning, has_no_result, is_body, are_different, member_names, scope_of, is_bound_class}
+use Rattle.abstract_syntax.specs.Classes.{Body, written, OperationTree, ClassTree, is_same_name, class_operations}
+use Rattle.vdm_grammar.specs.Binding.{Scope, is_among, is_over, is_target, is_called, is_value, is_plain, are_plain, end_in_return, is_return, is_returning, has_no_result, is_body_of, is_body, are_different, member_names, scope_of, is_bound_class}
 use Rattle.vdm_tree.specs.declared.stmt.Stmt.{Stmt}
 use Rattle.vdm_tree.specs.StmtView.{stmt_trees, stmt_view, stmt_views}
 use Rattle.std.proofs.lemmas.List.{map-append}
@@ -33,28 +34,18 @@ end_in_return-split scope statements earlier last split =
 
 module _ (a b : Scope) (variables : (name : Name) → is_among name a.variables ≡ is_among name b.variables) (procedures : (name : Name) → is_among name a.procedures ≡ is_among name b.procedures) where
   over-same : (e : ExprTree) → is_over a.variables e ≡ is_over b.variables e
-  over-same (whole n place) = refl
+  over-same (literal (whole_literal n) place) = refl
   over-same (named name place) = variables name
-  over-same (joined left operator right place) = λ i. over-same left i && over-same right i
-  over-same (apply head arguments place) = refl
-  over-same (create class class_place arguments place) = refl
-  over-same (select target name name_place place) = refl
+  over-same (joined left sign right place) = λ i. over-same left i && over-same right i
+  over-same _ = refl
 
   target-same : (t : TargetTree) → is_target a t ≡ is_target b t
-  target-same (variable name place) = variables name
+  target-same (variable name [] place) = variables name
+  target-same _ = refl
 
   called-same : (e : ExprTree) → is_called a e ≡ is_called b e
   called-same (apply (named name at) arguments place) = procedures name
-  called-same (apply (whole n at) arguments place) = refl
-  called-same (apply (joined l o r at) arguments place) = refl
-  called-same (apply (apply head inner at) arguments place) = refl
-  called-same (apply (create class class_place inner at) arguments place) = refl
-  called-same (apply (select target name name_place at) arguments place) = refl
-  called-same (whole n place) = refl
-  called-same (named name place) = refl
-  called-same (joined left operator right place) = refl
-  called-same (create class class_place arguments place) = refl
-  called-same (select target name name_place place) = refl
+  called-same _ = refl
 
   value-same : (v : Option ExprTree) → is_value a v ≡ is_value b v
   value-same None = refl
@@ -65,7 +56,7 @@ module _ (a b : Scope) (variables : (name : Name) → is_among name a.variables 
     plain-same (assign target value place) = λ i. target-same target i && over-same value i
     plain-same (call application place) = called-same application
     plain-same (block locals statements place) = are_plain-same statements
-    plain-same (returns value place) = refl
+    plain-same _ = refl
 
     are_plain-same : (ss : StmtTrees) → are_plain a ss ≡ are_plain b ss
     are_plain-same no_stmts = refl
@@ -73,9 +64,7 @@ module _ (a b : Scope) (variables : (name : Name) → is_among name a.variables 
 
   return-same : (s : StmtTree) → is_return a s ≡ is_return b s
   return-same (returns value place) = value-same value
-  return-same (assign target value place) = refl
-  return-same (call application place) = refl
-  return-same (block locals statements place) = refl
+  return-same _ = refl
 
   end_in_return-same : (ss : StmtTrees) → end_in_return a ss ≡ end_in_return b ss
   end_in_return-same no_stmts = refl
@@ -84,12 +73,14 @@ module _ (a b : Scope) (variables : (name : Name) → is_among name a.variables 
 
   returning-same : (s : StmtTree) → is_returning a s ≡ is_returning b s
   returning-same (block locals statements place) = end_in_return-same statements
-  returning-same (returns value place) = refl
-  returning-same (assign target value place) = refl
-  returning-same (call application place) = refl
+  returning-same _ = refl
+
+  body_of-same : (without_result : Bool) (body : Body StmtTree) → is_body_of a without_result body ≡ is_body_of b without_result body
+  body_of-same without_result (written body) = λ i. if without_result then plain-same body i else returning-same body i
+  body_of-same without_result _ = refl
 
   body-same : (o : OperationTree) → is_body a o ≡ is_body b o
-  body-same o = λ i. if has_no_result o then plain-same o.body i else returning-same o.body i
+  body-same o = body_of-same (has_no_result o) o.body
 
   pub bodies-same : (os : List OperationTree) → list_all (is_body a) os ≡ list_all (is_body b) os
   bodies-same [] = refl

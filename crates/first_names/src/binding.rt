@@ -2,8 +2,8 @@
 
 ghost use Rattle.std.specs.Prelude.{◌≡◌, map, flat_map, IfOk};
 ghost use Rattle.std.specs.List.{list_all};
-ghost use Rattle.vdm_grammar.specs.Binding.{is_bound, is_bound_class, is_body, is_returning, is_plain, are_plain, end_in_return, is_return, is_value, is_target, is_called, is_over};
-ghost use Rattle.abstract_syntax.specs.Classes.{operations_in};
+ghost use Rattle.vdm_grammar.specs.Binding.{is_bound, is_bound_class, is_body, is_body_of, is_returning, is_plain, are_plain, end_in_return, is_return, is_value, is_target, is_called, is_over};
+ghost use Rattle.abstract_syntax.specs.Classes.{operations_in, written};
 ghost use Rattle.vdm_tree.specs.View.{view_of};
 ghost use Rattle.vdm_tree.specs.StmtView.{stmt_view, stmt_views, stmt_trees, target_view};
 ghost use Rattle.vdm_tree.specs.ClassView.{spec_view, class_view, block_view, operation_view};
@@ -14,7 +14,7 @@ use crate::scope::Scope;
 use indexmap::IndexSet;
 use std::alloc::Global;
 use vdm_kinds::{Name, OutOfMemory};
-use vdm_tree::{Block, ClassDef, Expr, OpDef, Spec, Stmt, Target};
+use vdm_tree::{Block, Body, ClassDef, Expr, Literal, OpDef, Spec, Stmt, Target};
 
 /// Whether each name of a specification stands for what its place wants: the members of a class differ from each other
 /// and from the class, which is not `IO`; a name in a sum or before `:=` is a variable; what is called is an operation
@@ -73,8 +73,8 @@ fn are_bodies_in(scope: &Scope, block: &Block) -> bool
     ensures { result ≡ list_all (is_body (scope_view scope.now)) (operations_in (block_view block.now)) }
 {
     match block {
-        Block::Variables(_, _) => true,
         Block::Operations(operations, _) => are_all_bodies(scope, operations),
+        _ => true,
     }
 }
 
@@ -92,10 +92,20 @@ fn are_all_bodies(scope: &Scope, operations: &[OpDef]) -> bool
 fn is_body(scope: &Scope, operation: &OpDef) -> bool
     ensures { result ≡ is_body (scope_view scope.now) (operation_view operation.now) }
 {
-    if operation.result_type.is_none() {
-        is_plain(scope, &operation.body)
+    match &operation.body {
+        Body::Written(body) => is_written_body(scope, operation.result_type.is_none(), body),
+        _ => false,
+    }
+}
+
+/// Whether a body without a result returns nothing, and one with a result returns it at its end.
+fn is_written_body(scope: &Scope, without_result: bool, body: &Stmt) -> bool
+    ensures { result ≡ is_body_of (scope_view scope.now) without_result (written (stmt_view body.now)) }
+{
+    if without_result {
+        is_plain(scope, body)
     } else {
-        is_returning(scope, &operation.body)
+        is_returning(scope, body)
     }
 }
 
@@ -154,15 +164,17 @@ fn is_plain(scope: &Scope, statement: &Stmt) -> bool
             }
             true
         }
-        Stmt::Return(_, _) => false,
+        _ => false,
     }
 }
 
 fn is_target(scope: &Scope, target: &Target) -> bool
     ensures { result ≡ is_target (scope_view scope.now) (target_view target.now) }
 {
-    let Target::Name(name, _) = target;
-    scope.has_variable(*name)
+    match target {
+        Target::Name(name, steps, _) if steps.is_empty() => scope.has_variable(*name),
+        _ => false,
+    }
 }
 
 /// Whether what is called is an operation without a result.
@@ -183,9 +195,9 @@ fn is_over(scope: &Scope, sum: &Expr) -> bool
     ensures { result ≡ is_over (scope_view scope.now).variables (view_of sum.now) }
 {
     match sum {
-        Expr::Whole(_, _) => true,
+        Expr::Literal(Literal::Whole(_), _) => true,
         Expr::Name(name, _) => scope.has_variable(*name),
         Expr::Infix(left, _, right, _) => is_over(scope, left) && is_over(scope, right),
-        Expr::Apply(_, _, _) | Expr::New(_, _, _, _) | Expr::Select(_, _, _, _) => false,
+        _ => false,
     }
 }

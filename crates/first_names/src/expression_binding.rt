@@ -11,7 +11,7 @@ ghost use Rattle.vdm_tree.specs.ClassView.{spec_view, class_view, block_view, op
 ghost use Rattle.first_names.specs.Scopes.{is_operation};
 
 use vdm_kinds::Name;
-use vdm_tree::{Block, ClassDef, Expr, OpDef, Spec};
+use vdm_tree::{Block, ClassDef, Expr, Literal, OpDef, Spec};
 
 /// Whether the names of an expression stand for what their places want: no name stands in a sum, and what is called of a
 /// new object is an operation of its class.
@@ -29,12 +29,9 @@ fn is_of_literals(sum: &Expr) -> bool
     ensures { result ≡ is_over [] (view_of sum.now) }
 {
     match sum {
-        Expr::Whole(_, _) => true,
+        Expr::Literal(Literal::Whole(_), _) => true,
         Expr::Infix(left, _, right, _) => is_of_literals(left) && is_of_literals(right),
-        Expr::Name(_, _)
-        | Expr::Apply(_, _, _)
-        | Expr::New(_, _, _, _)
-        | Expr::Select(_, _, _, _) => false,
+        _ => false,
     }
 }
 
@@ -86,8 +83,8 @@ fn is_in_block(block: &Block, name: Name) -> bool
     ensures { result ≡ list_any (is_operation name) (operations_in (block_view block.now)) }
 {
     match block {
-        Block::Variables(_, _) => false,
         Block::Operations(operations, _) => is_in_operations(operations, name),
+        _ => false,
     }
 }
 

@@ -8,7 +8,7 @@ ghost use Rattle.first_names.specs.Scopes.{numbers, variable_numbers, procedure_
 
 use std::alloc::Global;
 use vdm_kinds::OutOfMemory;
-use vdm_tree::{Block, ClassDef};
+use vdm_tree::{Block, ClassDef, VariableItem};
 
 /// The names of a class's variables, as numbers and in text order.
 pub fn variable_names(alloc: Global, class: &ClassDef) -> Result<Vec<u32>, OutOfMemory>
@@ -24,9 +24,11 @@ pub fn variable_names(alloc: Global, class: &ClassDef) -> Result<Vec<u32>, OutOf
 fn push_variables(names: &mut Vec<u32>, block: &Block) -> Result<(), OutOfMemory>
     ensures { OnOk result (names.new.items ≡ names.old.items ++ variable_numbers (variables_in (block_view block.now))) }
 {
-    if let Block::Variables(variables, _) = block {
-        for variable in variables {
-            names.push(variable.name.0)?;
+    if let Block::Variables(items, _) = block {
+        for item in items {
+            if let VariableItem::Variable(variable) = item {
+                names.push(variable.name.0)?;
+            }
         }
     }
     Ok(())

@@ -2,7 +2,7 @@
 use Rattle.std.proofs.Common.{◌≡◌, ℕ, zero, suc, ◌<◌, List, [], ◌∷◌, ◌++◌, length, map, Some, None, refl, ap, sym, ◌∙◌, arith}
 use Rattle.std.proofs.lemmas.List.{map_push}
 use Rattle.vdm_kinds.specs.declared.place.Place.{Place}
-use Rattle.vdm_kinds.specs.declared.operator.Operator.TheVariants.{Plus as operator_plus}
+use Rattle.vdm_kinds.specs.declared.sign.Sign.TheVariants.{Plus}
 use Rattle.abstract_syntax.specs.Expressions.{ExprTree, joined}
 use Rattle.abstract_syntax.specs.Statements.{StmtTree}
 use Rattle.vdm_grammar.specs.declared.mark.Mark.TheVariants as mark
@@ -11,7 +11,7 @@ use Rattle.vdm_grammar.specs.Reading.{Read, mark_in, term_in, sum_on, stmt_in, s
 
 -- ---- sums
 
-pub sum_on-more : (room less : ℕ) (left right sum : ExprTree) (tokens behind rest : List Token) (sign : Place) → room ≡ suc less → mark_in mark.Plus tokens ≡ Some (sign, behind) → term_in behind ≡ Some (right, rest) → sum ≡ joined left operator_plus right sign → sum_on room left tokens ≡ sum_on less sum rest
+pub sum_on-more : (room less : ℕ) (left right sum : ExprTree) (tokens behind rest : List Token) (sign : Place) → room ≡ suc less → mark_in mark.Plus tokens ≡ Some (sign, behind) → term_in behind ≡ Some (right, rest) → sum ≡ joined left Plus right sign → sum_on room left tokens ≡ sum_on less sum rest
 sum_on-more room less left right sum tokens behind rest sign one_more plus term is = rw one_more (rw plus (rw term (rw is refl)))
 
 -- ---- statements

@@ -1,15 +1,18 @@
 // Statements.
 
-ghost use Rattle.std.specs.Prelude.{length, []};
+ghost use Rattle.std.specs.Prelude.{◌≡◌, length, [], Some, IfOk};
+ghost use Rattle.abstract_syntax.specs.Expressions.{named, apply, no_exprs};
+ghost use Rattle.abstract_syntax.specs.Statements.{variable, assign, call, returns};
 ghost use Rattle.vdm_grammar.specs.Reading.{stmt_in, stmts_on, block_closed, named_stmt, called};
-ghost use Rattle.vdm_tree.specs.StmtView.{stmt_view};
+ghost use Rattle.vdm_tree.specs.View.{view_of};
+ghost use Rattle.vdm_tree.specs.StmtView.{stmt_view, target_view};
 ghost use Rattle.first_statements.specs.Views.{Reads, name_view, statements_view};
 
 use crate::single::{NameAt, mark, name};
 use crate::sums::sum;
 use std::alloc::Global;
 use vdm_grammar::{Mark, NO_TREE, NoTree, Token};
-use vdm_kinds::{Halt, Place};
+use vdm_kinds::{Halt, OutOfMemory, Place};
 use vdm_tree::{Expr, Stmt, Target};
 
 /// A statement that nests at most `room` nodes, and the tokens behind it.
@@ -28,7 +31,7 @@ pub fn statement<'t>(
     }
     if let Some((place, behind)) = mark(Mark::Return, tokens) {
         let (value, rest) = sum(alloc, behind, room)?;
-        return Ok((Stmt::return_of(alloc, value, place)?, rest));
+        return Ok((returned(alloc, value, place)?, rest));
     }
     let (first, rest) = name(tokens).ok_or(NO_TREE)?;
     named(alloc, first, rest, room)
@@ -68,7 +71,7 @@ fn block_closed<'t>(
     ensures { Reads result stmt_view (block_closed bracket (statements_view statements) tokens.now) }
 {
     let (_, rest) = mark(Mark::Close, tokens).ok_or(NO_TREE)?;
-    Ok((Stmt::block(alloc, statements, bracket), rest))
+    Ok((Stmt::block(Vec::new(alloc), statements, bracket), rest))
 }
 
 /// The statement that a name begins, an assignment or a call, and the tokens behind it.
@@ -82,8 +85,7 @@ fn named<'t>(
 {
     if let Some((_, behind)) = mark(Mark::Becomes, tokens) {
         let (value, rest) = sum(alloc, behind, room)?;
-        let target = Target::Name(first.name, first.place);
-        return Ok((Stmt::assign(alloc, target, value, first.place)?, rest));
+        return Ok((assigned(alloc, first, value)?, rest));
     }
     let (bracket, behind) = mark(Mark::Open, tokens).ok_or(NO_TREE)?;
     called(alloc, first, bracket, behind, room)
@@ -104,7 +106,36 @@ fn called<'t>(
         return Err(NO_TREE);
     }
     let (_, rest) = mark(Mark::Close, tokens).ok_or(NO_TREE)?;
-    let name = Expr::name(head.name, head.place);
-    let application = Expr::apply(alloc, name, Vec::new(alloc), bracket)?;
-    Ok((Stmt::call(alloc, application, head.place)?, rest))
+    Ok((call_of(alloc, head, bracket)?, rest))
+}
+
+/// The return of a value.
+fn returned(alloc: Global, value: Expr, place: Place) -> Result<Stmt, OutOfMemory>
+    ensures { IfOk result (λ s. stmt_view s ≡ returns (Some (view_of value)) place) }
+{
+    Ok(Stmt::return_of(Some(Box::new(alloc, value)?), place))
+}
+
+/// The assignment of a value to a variable.
+fn assigned(alloc: Global, target: NameAt, value: Expr) -> Result<Stmt, OutOfMemory>
+    ensures { IfOk result (λ s. stmt_view s ≡ assign (variable target.name [] target.place) (view_of value) target.place) }
+{
+    let value = Box::new(alloc, value)?;
+    Ok(Stmt::assign(variable(alloc, target), value, target.place))
+}
+
+/// The variable of this name. It has no steps.
+fn variable(alloc: Global, found: NameAt) -> Target
+    ensures { target_view result ≡ variable found.name [] found.place }
+{
+    Target::variable(found.name, Vec::new(alloc), found.place)
+}
+
+/// The call of a name, whose `(` is at the place.
+fn call_of(alloc: Global, head: NameAt, bracket: Place) -> Result<Stmt, OutOfMemory>
+    ensures { IfOk result (λ s. stmt_view s ≡ call (apply (named head.name head.place) no_exprs bracket) head.place) }
+{
+    let name = Box::new(alloc, Expr::name(head.name, head.place))?;
+    let application = Expr::apply(name, Vec::new(alloc), bracket);
+    Ok(Stmt::call(Box::new(alloc, application)?, head.place))
 }

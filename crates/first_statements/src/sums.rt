@@ -1,5 +1,8 @@
 // Sums.
 
+ghost use Rattle.std.specs.Prelude.{◌≡◌, IfOk};
+ghost use Rattle.vdm_kinds.specs.declared.sign.Sign.TheVariants.{Plus};
+ghost use Rattle.abstract_syntax.specs.Expressions.{joined};
 ghost use Rattle.vdm_grammar.specs.Reading.{term_in, sum_on, sum_in};
 ghost use Rattle.vdm_tree.specs.View.{view_of};
 ghost use Rattle.first_statements.specs.Views.{Finds, Reads};
@@ -7,7 +10,7 @@ ghost use Rattle.first_statements.specs.Views.{Finds, Reads};
 use crate::single::mark;
 use std::alloc::Global;
 use vdm_grammar::{Mark, NO_TREE, NoTree, Token, TokenKind};
-use vdm_kinds::{Halt, Operator};
+use vdm_kinds::{Halt, OutOfMemory, Place, Sign};
 use vdm_tree::Expr;
 
 /// How many nodes may be nested.
@@ -40,8 +43,17 @@ fn sum_on<'t>(
     };
     let room = room.checked_sub(1).ok_or(NO_TREE)?;
     let (right, rest) = term(behind).ok_or(NO_TREE)?;
-    let sum = Expr::infix(alloc, left, Operator::Plus, right, sign)?;
+    let sum = joined(alloc, left, right, sign)?;
     sum_on(alloc, sum, rest, room)
+}
+
+/// The sum of two terms, whose `+` is at the place.
+fn joined(alloc: Global, left: Expr, right: Expr, place: Place) -> Result<Expr, OutOfMemory>
+    ensures { IfOk result (λ e. view_of e ≡ joined (view_of left) Plus (view_of right) place) }
+{
+    let left = Box::new(alloc, left)?;
+    let right = Box::new(alloc, right)?;
+    Ok(Expr::infix(left, Sign::Plus, right, place))
 }
 
 /// A literal or a name that comes next, and the tokens behind it.

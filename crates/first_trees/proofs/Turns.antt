@@ -1,19 +1,19 @@
 -- One turn of each loop that reads a list.
 use Rattle.std.proofs.Common.{◌≡◌, ℕ, zero, suc, ◌<◌, List, [], ◌∷◌, ◌++◌, Some, None, refl, arith}
 use Rattle.vdm_kinds.specs.declared.place.Place.{Place}
-use Rattle.abstract_syntax.specs.Classes.{VariableTree, OperationTree}
+use Rattle.abstract_syntax.specs.Classes.{VariableItem, OperationTree}
 use Rattle.vdm_grammar.specs.declared.mark.Mark.TheVariants as mark
 use Rattle.vdm_grammar.specs.declared.token.Token.{Token}
-use Rattle.vdm_grammar.specs.Reading.{NameAt, mark_in, name_in, variable_in, variables_on, operation_in, operations_on}
+use Rattle.vdm_grammar.specs.Reading.{NameAt, mark_in, name_in, item_in, items_on, operation_in, operations_on}
 
 -- ---- variables
 
-pub variables_on-last : (turns : ℕ) (read : List VariableTree) (tokens rest : List Token) (variable : VariableTree) → 0 < turns → variable_in tokens ≡ Some (variable, rest) → name_in rest ≡ None → variables_on turns read tokens ≡ Some (read ++ variable ∷ [], rest)
-variables_on-last zero read tokens rest variable some first none = absurd (omega arith)
-variables_on-last (suc turns) read tokens rest variable some first none = rw first (rw none refl)
+pub items_on-last : (turns : ℕ) (read : List VariableItem) (tokens rest : List Token) (variable : VariableItem) → 0 < turns → item_in tokens ≡ Some (variable, rest) → name_in rest ≡ None → items_on turns read tokens ≡ Some (read ++ variable ∷ [], rest)
+items_on-last zero read tokens rest variable some first none = absurd (omega arith)
+items_on-last (suc turns) read tokens rest variable some first none = rw first (rw none refl)
 
-pub variables_on-more : (turns : ℕ) (read : List VariableTree) (tokens rest behind : List Token) (variable : VariableTree) (name : NameAt) → variable_in tokens ≡ Some (variable, rest) → name_in rest ≡ Some (name, behind) → variables_on (suc turns) read tokens ≡ variables_on turns (read ++ variable ∷ []) rest
-variables_on-more turns read tokens rest behind variable name first next = rw first (rw next refl)
+pub items_on-more : (turns : ℕ) (read : List VariableItem) (tokens rest behind : List Token) (variable : VariableItem) (name : NameAt) → item_in tokens ≡ Some (variable, rest) → name_in rest ≡ Some (name, behind) → items_on (suc turns) read tokens ≡ items_on turns (read ++ variable ∷ []) rest
+items_on-more turns read tokens rest behind variable name first next = rw first (rw next refl)
 
 -- ---- operations
 

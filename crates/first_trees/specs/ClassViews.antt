@@ -1,13 +1,13 @@
 -- The members of a class, as the program's vectors give them.
 use Rattle.std.specs.Prelude.{List, map, Vec}
-use Rattle.abstract_syntax.specs.Classes.{VariableTree, OperationTree, BlockTree}
+use Rattle.abstract_syntax.specs.Classes.{VariableItem as VariableItemTree, OperationTree, BlockTree}
 use Rattle.vdm_tree.specs.declared.class_def.Block.{Block}
 use Rattle.vdm_tree.specs.declared.class_def.OpDef.{OpDef}
-use Rattle.vdm_tree.specs.declared.class_def.VarDef.{VarDef}
-use Rattle.vdm_tree.specs.ClassView.{variable_view, operation_view, block_view}
+use Rattle.vdm_tree.specs.declared.class_def.VariableItem.{VariableItem}
+use Rattle.vdm_tree.specs.ClassView.{variable_item_view, operation_view, block_view}
 
-abbrev pub variables_view : {A : Type 0} → Vec VarDef A → List VariableTree
-variables_view definitions = map variable_view definitions.items
+abbrev pub variables_view : {A : Type 0} → Vec VariableItem A → List VariableItemTree
+variables_view definitions = map variable_item_view definitions.items
 
 abbrev pub operations_view : {A : Type 0} → Vec OpDef A → List OperationTree
 operations_view definitions = map operation_view definitions.items

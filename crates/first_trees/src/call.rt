@@ -55,7 +55,8 @@ fn call_on<'t>(
     let (operation, rest) = name(rest).ok_or(NO_TREE)?;
     let (bracket, rest) = mark(Mark::Open, rest).ok_or(NO_TREE)?;
     let (_, rest) = mark(Mark::Close, rest).ok_or(NO_TREE)?;
-    let member = Expr::select(alloc, target, operation.name, operation.place, dot)?;
-    let call = Expr::apply(alloc, member, Vec::new(alloc), bracket)?;
-    Ok((call, rest))
+    let target = Box::new(alloc, target)?;
+    let member = Expr::select(target, operation.name, operation.place, dot);
+    let member = Box::new(alloc, member)?;
+    Ok((Expr::apply(member, Vec::new(alloc), bracket), rest))
 }

@@ -48,6 +48,7 @@ fn class<'t>(alloc: Global, tokens: &'t [Token]) -> Result<(ClassDef, &'t [Token
     let class = ClassDef {
         name: first.name,
         name_place: first.place,
+        superclasses: Vec::new(alloc),
         blocks,
         place,
     };

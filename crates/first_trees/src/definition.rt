@@ -1,24 +1,25 @@
 // Definitions of variables and of operations.
 
 ghost use Rattle.std.specs.Prelude.{length, [], option_map};
-ghost use Rattle.vdm_grammar.specs.Reading.{type_in, variable_in, variables_on, result_in, signature_in, definition_in, operation_in, operations_on};
-ghost use Rattle.vdm_tree.specs.StmtView.{type_view, stmt_view};
-ghost use Rattle.vdm_tree.specs.ClassView.{variable_view, operation_view};
+ghost use Rattle.vdm_grammar.specs.Reading.{type_in, item_in, items_on, result_in, signature_in, definition_in, operation_in, operations_on};
+ghost use Rattle.vdm_tree.specs.StmtView.{stmt_view};
+ghost use Rattle.vdm_tree.specs.Literals.{type_view};
+ghost use Rattle.vdm_tree.specs.ClassView.{variable_item_view, operation_view};
 ghost use Rattle.first_statements.specs.Views.{Finds, Reads};
 ghost use Rattle.first_trees.specs.ClassViews.{variables_view, operations_view};
 
 use first_statements::{DEPTH_LIMIT, NameAt, brackets, literal, mark, name, name_again, statement};
 use std::alloc::Global;
 use vdm_grammar::{Mark, NO_TREE, NoTree, Token};
-use vdm_kinds::{Access, Halt, Level, Name};
-use vdm_tree::{OpDef, Stmt, TypeExpr, VarDef};
+use vdm_kinds::{Access, BasicType, Halt, Level, Name};
+use vdm_tree::{Body, OpDef, Stmt, TypeExpr, VarDef, VariableItem};
 
 /// Variables, as long as a name comes next, and the tokens behind them.
 pub fn variables<'t>(
     alloc: Global,
     tokens: &'t [Token],
-) -> Result<(Vec<VarDef>, &'t [Token]), Halt<NoTree>>
-    ensures { Reads result variables_view (variables_on (length tokens.now) [] tokens.now) }
+) -> Result<(Vec<VariableItem>, &'t [Token]), Halt<NoTree>>
+    ensures { Reads result variables_view (items_on (length tokens.now) [] tokens.now) }
 {
     let mut variables = Vec::new(alloc);
     let mut rest = tokens;
@@ -35,8 +36,11 @@ pub fn variables<'t>(
 }
 
 /// A variable with its literal, and the tokens behind it.
-fn variable<'t>(alloc: Global, tokens: &'t [Token]) -> Result<(VarDef, &'t [Token]), Halt<NoTree>>
-    ensures { Reads result variable_view (variable_in tokens.now) }
+fn variable<'t>(
+    alloc: Global,
+    tokens: &'t [Token],
+) -> Result<(VariableItem, &'t [Token]), Halt<NoTree>>
+    ensures { Reads result variable_item_view (item_in tokens.now) }
 {
     let (NameAt { name, place }, rest) = name(tokens).ok_or(NO_TREE)?;
     let (_, rest) = mark(Mark::Colon, rest).ok_or(NO_TREE)?;
@@ -55,7 +59,7 @@ fn variable<'t>(alloc: Global, tokens: &'t [Token]) -> Result<(VarDef, &'t [Toke
         initial: Some(Box::new(alloc, value)?),
         place,
     };
-    Ok((variable, rest))
+    Ok((VariableItem::Variable(variable), rest))
 }
 
 /// A type that comes next, and the tokens behind it.
@@ -63,7 +67,7 @@ fn type_expr<'t>(tokens: &'t [Token]) -> Option<(TypeExpr, &'t [Token])>
     ensures { Finds result type_view (type_in tokens.now) }
 {
     let (place, rest) = mark(Mark::Nat, tokens)?;
-    Some((TypeExpr::Nat(place), rest))
+    Some((TypeExpr::Basic(BasicType::Nat, place), rest))
 }
 
 /// Operations, as long as `public` comes next, and the tokens behind them.
@@ -102,8 +106,12 @@ fn operation<'t>(alloc: Global, tokens: &'t [Token]) -> Result<(OpDef, &'t [Toke
         },
         name: first.name,
         name_place: first.place,
+        parameters: Vec::new(alloc),
         result_type,
-        body: Box::new(alloc, body)?,
+        patterns: Vec::new(alloc),
+        body: Body::Written(Box::new(alloc, body)?),
+        pre: None,
+        post: None,
         place,
     };
     Ok((operation, rest))

@@ -9,7 +9,7 @@ ghost use Rattle.vdm_tree.specs.ClassView.{class_view, spec_view};
 use crate::writes::is_same_variable;
 use run_journal::{Deed, Entry};
 use vdm_kinds::{Name, VarRef};
-use vdm_tree::{Block, ClassDef, Spec};
+use vdm_tree::{Block, ClassDef, Spec, VariableItem};
 use vdm_values::Slot;
 
 /// The slot that the object was made with for the variable, where it has the variable.
@@ -60,17 +60,19 @@ fn slot_among<'a>(class: &ClassDef, slots: &'a [Slot], var: VarRef) -> Option<&'
 {
     let mut rest = slots;
     for block in &class.blocks {
-        if let Block::Variables(variables, _) = block {
-            for variable in variables {
-                let (slot, others) = rest.split_first()?;
-                let here = VarRef {
-                    class: class.name,
-                    name: variable.name,
-                };
-                if is_same_variable(var, here) {
-                    return Some(slot);
+        if let Block::Variables(items, _) = block {
+            for item in items {
+                if let VariableItem::Variable(variable) = item {
+                    let (slot, others) = rest.split_first()?;
+                    let here = VarRef {
+                        class: class.name,
+                        name: variable.name,
+                    };
+                    if is_same_variable(var, here) {
+                        return Some(slot);
+                    }
+                    rest = others;
                 }
-                rest = others;
             }
         }
     }

@@ -1,17 +1,13 @@
 // What the words of a request make.
 
-ghost use Rattle.std.specs.Prelude.{◌≤◌, length, IfSome};
-
 use row_words::Line;
 use run_journal::{Answer, Deed, EntryList, Question, Write};
 use std::alloc::Global;
 use vdm_kinds::{Name, OpRef, VarRef};
 use vdm_names::Names;
-use vdm_tree::{Expr, Spec};
 use vdm_values::{Node, Slot, Value};
 
-/// What words made so far, the last of each kind last. Names that were declared are known by their index, and without a
-/// specification it is the empty one.
+/// What words made so far, the last of each kind last. Names that were declared are known by their index.
 #[derive(Drop)]
 pub struct Desk {
     pub names: Names,
@@ -23,8 +19,6 @@ pub struct Desk {
     pub entries: EntryList,
     pub questions: Vec<Question>,
     pub answers: Vec<Answer>,
-    pub spec: Spec,
-    pub trees: Vec<Expr>,
 }
 
 impl Desk {
@@ -40,10 +34,6 @@ impl Desk {
             entries: EntryList::new(alloc),
             questions: Vec::new(alloc),
             answers: Vec::new(alloc),
-            spec: Spec {
-                classes: Vec::new(alloc),
-            },
-            trees: Vec::new(alloc),
         }
     }
 
@@ -57,8 +47,8 @@ impl Desk {
         }
     }
 
-    // Does what a word says.
-    fn follow(&mut self, word: &str, line: &mut Line<'_>) {
+    /// Does what a word says.
+    pub fn follow(&mut self, word: &str, line: &mut Line<'_>) {
         match word {
             "name" => self.declare(line),
             "number" => self.number(line),
@@ -69,17 +59,6 @@ impl Desk {
             "answer" => self.answer(line),
             "entry" => self.enter(line),
             "ask" => self.ask(line),
-            "spec" => self.read_spec(line),
-            "expr" => self.read_expr(line),
-            "tree" => self.grow(line),
-            _ => self.change(word, line),
-        }
-    }
-
-    fn change(&mut self, word: &str, line: &mut Line<'_>) {
-        match word {
-            "no-initial" => self.unset_last(),
-            "blocks-apart" => self.set_apart(line),
             _ => self.make(word, line),
         }
     }
@@ -110,11 +89,6 @@ impl Desk {
         line.put(&mut self.answers, answer);
     }
 
-    fn grow(&mut self, line: &mut Line<'_>) {
-        let tree = self.tree_by(line);
-        line.put(&mut self.trees, tree);
-    }
-
     /// The last value, taken from the desk; nil where there is none.
     pub fn value(&mut self, line: &mut Line<'_>) -> Value {
         line.last(&mut self.values, Value::new(Node::Nil))
@@ -138,21 +112,6 @@ impl Desk {
     /// The last answer, taken from the desk; that it is done where there is none.
     pub fn last_answer(&mut self, line: &mut Line<'_>) -> Answer {
         line.last(&mut self.answers, Answer::Done)
-    }
-
-    /// The specification, unless it has several classes.
-    pub fn spec(&self) -> Option<&Spec>
-        ensures { IfSome result (λ spec. length spec.now.classes.items ≤ 1) }
-    {
-        if self.spec.classes.len() > 1 {
-            return None;
-        }
-        Some(&self.spec)
-    }
-
-    /// The last expression.
-    pub fn tree(&self) -> Option<&Expr> {
-        self.trees.last()
     }
 
     /// The variable whose class and name stand next.

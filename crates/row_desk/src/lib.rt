@@ -1,17 +1,15 @@
 //! The desk on which stands what the words of a request make: names, values and slots, deeds and entries, questions and
-//! answers, a specification and expressions.
+//! answers.
 #![tactic(auto)]
 
 mod answers;
 mod deeds;
 mod desk;
 mod said;
-mod specs;
 mod threads;
-mod trees;
 mod values;
 
 pub use desk::Desk;
 pub use said::{say_entries, say_made};
 pub use threads::thread_by;
-pub use values::pairs_of;
+pub use values::{MOST_NAMES, pairs_of};

@@ -7,7 +7,7 @@ use vdm_kinds::Name;
 use vdm_values::{Node, Slot, Value};
 
 /// More names than any row has.
-pub(crate) const MOST_NAMES: usize = 1_000_000;
+pub const MOST_NAMES: usize = 1_000_000;
 
 impl Desk {
     /// Declares the name of the text that stands next.
@@ -32,7 +32,7 @@ impl Desk {
     }
 
     /// The declared name of the index that stands next.
-    pub(crate) fn name(&self, line: &mut Line<'_>) -> Name {
+    pub fn name(&self, line: &mut Line<'_>) -> Name {
         let index = line.count();
         line.found(self.known.get(index).copied(), Name(0))
     }

@@ -6,21 +6,22 @@ ghost use Rattle.std.specs.Prelude.{◌≤◌, length};
 use plain_judge::is_run;
 use plain_run::{Ran, run};
 use plain_state::{Finish, finish_of, is_in_order};
-use row_desk::{Desk, say_entries};
+use row_desk::say_entries;
+use row_trees::TreeDesk;
 use row_words::Line;
 use run_journal::{EntryList, Thread};
 use vdm_kinds::{OutOfMemory, Place, RunFault};
 use vdm_tree::{Expr, Spec};
 use vdm_values::Slot;
 
-pub(crate) fn answer(desk: &mut Desk, line: &mut Line<'_>, word: &str) {
+pub(crate) fn answer(desk: &mut TreeDesk, line: &mut Line<'_>, word: &str) {
     let units = line.whole();
     desk.read(line);
     if let Some(spec) = desk.spec()
         && let Some(tree) = desk.tree()
     {
         if word == "judge" {
-            say_judged(line, spec, tree, units, &desk.entries);
+            say_judged(line, spec, tree, units, &desk.plain.entries);
         } else {
             say_run(
                 line,
@@ -33,7 +34,7 @@ pub(crate) fn answer(desk: &mut Desk, line: &mut Line<'_>, word: &str) {
     } else {
         line.refuse();
     }
-    line.say_names(&desk.names);
+    line.say_names(&desk.plain.names);
 }
 
 fn say_judged(line: &mut Line<'_>, spec: &Spec, tree: &Expr, units: u64, entries: &EntryList)
@@ -61,14 +62,14 @@ fn say_run(line: &mut Line<'_>, spec: &Spec, tree: &Expr, units: u64, ran: &Ran)
     say_entries(line, &ran.journal);
 }
 
-pub(crate) fn on_entries(desk: &mut Desk, line: &mut Line<'_>, word: &str) {
+pub(crate) fn on_entries(desk: &mut TreeDesk, line: &mut Line<'_>, word: &str) {
     desk.read(line);
     if word == "finish" {
-        say_finish(line, &desk.entries);
+        say_finish(line, &desk.plain.entries);
     } else {
-        say_order(line, &desk.spec, &desk.entries);
+        say_order(line, &desk.spec, &desk.plain.entries);
     }
-    line.say_names(&desk.names);
+    line.say_names(&desk.plain.names);
 }
 
 fn say_order(line: &mut Line<'_>, spec: &Spec, entries: &EntryList) {

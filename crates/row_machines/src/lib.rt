@@ -6,11 +6,11 @@
 mod judges;
 mod machines;
 
-use row_desk::Desk;
+use row_trees::TreeDesk;
 use row_words::Line;
 
 /// Answers a request; tells whether the word is one of this library's.
-pub fn answer(desk: &mut Desk, line: &mut Line<'_>, word: &str) -> bool {
+pub fn answer(desk: &mut TreeDesk, line: &mut Line<'_>, word: &str) -> bool {
     match word {
         "play" | "calls" | "asks" => machines::answer(desk, line, word),
         "judge" | "run" => judges::answer(desk, line, word),

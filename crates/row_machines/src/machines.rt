@@ -7,7 +7,8 @@ ghost use Rattle.std.specs.Prelude.{◌≤◌, length};
 use class_table::Table;
 use journal_entries::entry_made;
 use plain_judge::{Standing, next_question};
-use row_desk::{Desk, say_made};
+use row_desk::say_made;
+use row_trees::TreeDesk;
 use row_words::Line;
 use run_journal::{Answer, AnswerList, HostAnswer, Question, Thread};
 use std::alloc::Global;
@@ -16,11 +17,11 @@ use stmt_exec::Machine;
 use vdm_kinds::OutOfMemory;
 use vdm_tree::{Expr, Spec};
 
-pub(crate) fn answer(desk: &mut Desk, line: &mut Line<'_>, word: &str) {
+pub(crate) fn answer(desk: &mut TreeDesk, line: &mut Line<'_>, word: &str) {
     let units = line.whole();
     desk.read(line);
     let last = last_answer(desk, line, word);
-    let answers = mem::replace(&mut desk.answers, Vec::new(line.alloc()));
+    let answers = mem::replace(&mut desk.plain.answers, Vec::new(line.alloc()));
     if let Some(spec) = desk.spec()
         && let Some(tree) = desk.tree()
     {
@@ -32,13 +33,13 @@ pub(crate) fn answer(desk: &mut Desk, line: &mut Line<'_>, word: &str) {
     } else {
         line.refuse();
     }
-    line.say_names(&desk.names);
+    line.say_names(&desk.plain.names);
 }
 
 // The answer that stands apart from those before it, where one does.
-fn last_answer(desk: &mut Desk, line: &mut Line<'_>, word: &str) -> Answer {
+fn last_answer(desk: &mut TreeDesk, line: &mut Line<'_>, word: &str) -> Answer {
     if word == "asks" {
-        desk.last_answer(line)
+        desk.plain.last_answer(line)
     } else {
         Answer::Done
     }

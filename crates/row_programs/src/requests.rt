@@ -1,6 +1,6 @@
 // One line after another, and which library answers it.
 
-use row_desk::Desk;
+use row_trees::TreeDesk;
 use row_words::Line;
 use std::alloc::Global;
 use std::io::{self, BufRead, BufReader, BufWriter, ErrorKind, Write};
@@ -49,15 +49,16 @@ fn answer<R: Clock>(rt: &R, line: &mut Line<'_>) {
 
 fn answer_over_desk(line: &mut Line<'_>, word: &str) {
     match Names::new(line.alloc()) {
-        Ok(names) => answer_by(&mut Desk::new(line.alloc(), names), line, word),
+        Ok(names) => answer_by(&mut TreeDesk::new(line.alloc(), names), line, word),
         Err(_) => line.fall_short(),
     }
 }
 
 // By the first library whose word it is.
-fn answer_by(desk: &mut Desk, line: &mut Line<'_>, word: &str) {
-    let is_answered = row_values::answer(desk, line, word)
-        || row_logs::answer(desk, line, word)
+fn answer_by(desk: &mut TreeDesk, line: &mut Line<'_>, word: &str) {
+    let is_answered = row_values::answer(&mut desk.plain, line, word)
+        || row_lists::answer(&mut desk.plain, line, word)
+        || row_logs::answer(&mut desk.plain, line, word)
         || row_runs::answer(desk, line, word)
         || row_machines::answer(desk, line, word);
     if !is_answered {

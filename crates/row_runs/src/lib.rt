@@ -7,13 +7,13 @@ mod stores;
 mod tokens;
 mod trees;
 
-use row_desk::Desk;
+use row_trees::TreeDesk;
 use row_words::Line;
 
 /// Answers a request; tells whether the word is one of this library's.
-pub fn answer(desk: &mut Desk, line: &mut Line<'_>, word: &str) -> bool {
+pub fn answer(desk: &mut TreeDesk, line: &mut Line<'_>, word: &str) -> bool {
     match word {
-        "tokens" | "spots" | "token-names" => tokens::answer(desk, line, word),
+        "tokens" | "spots" | "token-names" => tokens::answer(&mut desk.plain.names, line, word),
         "spec" | "accepts" => trees::specification(desk, line, word),
         "tree" | "expr" | "terms" => trees::answer(desk, line, word),
         "store" | "held" => stores::answer(desk, line, word),

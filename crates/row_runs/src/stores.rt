@@ -2,14 +2,15 @@
 // what the variable of the object holds behind the entries; its class and its name are the last two names.
 
 use plain_state::{Store, is_ready, state_of};
-use row_desk::{Desk, say_entries};
+use row_desk::say_entries;
+use row_trees::TreeDesk;
 use row_words::Line;
 use run_journal::{Question, Thread};
 use std::mem;
 use vdm_kinds::{OutOfMemory, VarRef};
 use vdm_tree::Spec;
 
-pub(crate) fn answer(desk: &mut Desk, line: &mut Line<'_>, word: &str) {
+pub(crate) fn answer(desk: &mut TreeDesk, line: &mut Line<'_>, word: &str) {
     if word == "store" {
         desk.read(line);
         store(desk, line);
@@ -18,11 +19,11 @@ pub(crate) fn answer(desk: &mut Desk, line: &mut Line<'_>, word: &str) {
         desk.read(line);
         held(desk, line, object);
     }
-    line.say_names(&desk.names);
+    line.say_names(&desk.plain.names);
 }
 
-fn store(desk: &mut Desk, line: &mut Line<'_>) {
-    let questions = mem::replace(&mut desk.questions, Vec::new(line.alloc()));
+fn store(desk: &mut TreeDesk, line: &mut Line<'_>) {
+    let questions = mem::replace(&mut desk.plain.questions, Vec::new(line.alloc()));
     let mut store = Store::new(line.alloc());
     for question in questions {
         say_answered(line, &desk.spec, &mut store, question);
@@ -43,10 +44,10 @@ fn say_answered(line: &mut Line<'_>, spec: &Spec, store: &mut Store, question: Q
     }
 }
 
-fn held(desk: &Desk, line: &mut Line<'_>, object: u32) {
-    let (class, name) = desk.last_names(line);
+fn held(desk: &TreeDesk, line: &mut Line<'_>, object: u32) {
+    let (class, name) = desk.plain.last_names(line);
     let variable = VarRef { class, name };
-    let entries = desk.entries.as_slice();
+    let entries = desk.plain.entries.as_slice();
     match state_of(line.alloc(), &desk.spec, entries, object, variable) {
         Ok(Some(slot)) => line.show(&slot),
         Ok(None) => line.say("none"),

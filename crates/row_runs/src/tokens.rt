@@ -4,7 +4,6 @@
 // texts.
 
 use first_tokens::lex;
-use row_desk::Desk;
 use row_words::Line;
 use vdm_grammar::{Token, TokenKind};
 use vdm_kinds::{Halt, Part};
@@ -13,14 +12,14 @@ use vdm_names::Names;
 /// More bytes than any row has.
 const MOST: usize = 1_000_000;
 
-pub(crate) fn answer(desk: &mut Desk, line: &mut Line<'_>, word: &str) {
+pub(crate) fn answer(names: &mut Names, line: &mut Line<'_>, word: &str) {
     let part = line.part();
-    let found = lexed(line, part, &mut desk.names);
+    let found = lexed(line, part, names);
     if line.is_over() {
-        say_found(line, word, found, &desk.names);
+        say_found(line, word, found, names);
     } else {
-        let found = lexed(line, Part::Expr, &mut desk.names);
-        say_found(line, word, found, &desk.names);
+        let found = lexed(line, Part::Expr, names);
+        say_found(line, word, found, names);
     }
 }
 

@@ -2,32 +2,33 @@
 // tree of an expression behind a specification, or its refusal. `terms`: how many terms the last tree has.
 
 use first_reader::read_specification;
-use row_desk::Desk;
+use row_shown::{say_spec, say_tree};
+use row_trees::TreeDesk;
 use row_words::Line;
 use vdm_kinds::{Halt, SpecFault};
 use vdm_names::Names;
-use vdm_tree::{Expr, Spec};
+use vdm_tree::{Expr, Literal, Spec};
 
 type ReadSpec = Result<Spec, Halt<SpecFault>>;
 
-pub(crate) fn answer(desk: &mut Desk, line: &mut Line<'_>, word: &str) {
+pub(crate) fn answer(desk: &mut TreeDesk, line: &mut Line<'_>, word: &str) {
     match word {
         "expr" => expression(desk, line),
         "terms" => terms(desk, line),
         _ => tree(desk, line),
     }
-    line.say_names(&desk.names);
+    line.say_names(&desk.plain.names);
 }
 
-fn tree(desk: &mut Desk, line: &mut Line<'_>) {
+fn tree(desk: &mut TreeDesk, line: &mut Line<'_>) {
     desk.read(line);
     match desk.tree() {
-        Some(tree) => line.show(tree),
+        Some(tree) => say_tree(line, tree),
         None => line.refuse(),
     }
 }
 
-fn terms(desk: &mut Desk, line: &mut Line<'_>) {
+fn terms(desk: &mut TreeDesk, line: &mut Line<'_>) {
     desk.read(line);
     match desk.tree() {
         Some(tree) => line.say_number(terms_of(tree)),
@@ -38,46 +39,46 @@ fn terms(desk: &mut Desk, line: &mut Line<'_>) {
 // How many literals a sum of literals has.
 fn terms_of(tree: &Expr) -> u64 {
     match tree {
-        Expr::Whole(..) => 1,
+        Expr::Literal(Literal::Whole(_), _) => 1,
         Expr::Infix(left, _, right, _) => terms_of(left).saturating_add(terms_of(right)),
         _ => 0,
     }
 }
 
-fn expression(desk: &mut Desk, line: &mut Line<'_>) {
+fn expression(desk: &mut TreeDesk, line: &mut Line<'_>) {
     let text = line.bytes();
     desk.read(line);
     match desk.expression(line.alloc(), &text) {
-        Ok(tree) => line.show(&tree),
+        Ok(tree) => say_tree(line, &tree),
         Err(Halt::Of(fault)) => line.say_refusal(fault),
         Err(Halt::OutOfMemory) => line.fall_short(),
     }
 }
 
-pub(crate) fn specification(desk: &mut Desk, line: &mut Line<'_>, word: &str) {
+pub(crate) fn specification(desk: &mut TreeDesk, line: &mut Line<'_>, word: &str) {
     let text = line.bytes();
     match Names::new(line.alloc()) {
         Ok(mut names) => {
             let read = read_specification(line.alloc(), &text, &mut names);
-            desk.names = names;
+            desk.plain.names = names;
             say_read(desk, line, word, read);
         }
         Err(_) => line.fall_short(),
     }
 }
 
-fn say_read(desk: &Desk, line: &mut Line<'_>, word: &str, read: ReadSpec) {
+fn say_read(desk: &TreeDesk, line: &mut Line<'_>, word: &str, read: ReadSpec) {
     if word == "accepts" {
         say_accepted(line, read);
     } else {
-        say_spec(line, read);
-        line.say_names(&desk.names);
+        say_spec_read(line, read);
+        line.say_names(&desk.plain.names);
     }
 }
 
-fn say_spec(line: &mut Line<'_>, read: ReadSpec) {
+fn say_spec_read(line: &mut Line<'_>, read: ReadSpec) {
     match read {
-        Ok(spec) => line.show(&spec),
+        Ok(spec) => say_spec(line, &spec),
         Err(Halt::Of(fault)) => line.say_refusal(fault),
         Err(Halt::OutOfMemory) => line.fall_short(),
     }

@@ -7,7 +7,6 @@
 mod insertion;
 mod kinds;
 mod lexemes;
-mod lists;
 mod sets;
 mod times;
 mod values;
@@ -26,10 +25,6 @@ pub fn answer(desk: &mut Desk, line: &mut Line<'_>, word: &str) -> bool {
         "order" | "rising" | "apart" | "same" | "taken" | "size" => {
             desk.read(line);
             values::answer(desk, line, word);
-        }
-        "list" | "pairs" | "slots" => {
-            desk.read(line);
-            lists::answer(desk, line, word);
         }
         "set" | "map" | "set-size" | "map-size" | "insertion" | "insertion-of-pairs" => {
             desk.read(line);

@@ -19,8 +19,7 @@ use Rattle.vdm_meaning.specs.Expressions.{right_operand, operator_on, read_value
 use Rattle.vdm_meaning.specs.Statements.{assigned, return_value, called, unless_returned, sequence, written}
 use Rattle.vdm_meaning.specs.Main.{end_slot, end_with, whole_expression, make_class_objects}
 use Rattle.step_data.specs.declared.asking.Asking.{Asking}
-use Rattle.step_data.specs.declared.asking.Asking.TheVariants.{IoClass, TextClass, Request, Activation, Finish, Read, Write, New}
-use Rattle.step_data.specs.declared.asking.Asking.TheVariants.{End as Ending}
+use Rattle.step_data.specs.declared.asking.Asking.TheVariants.{IoClass, TextClass, Request, Activation, Finish, Read, Write, New, End as Ending}
 use Rattle.step_data.specs.declared.frame.Use.{Use}
 use Rattle.step_data.specs.declared.frame.Use.TheVariants.{RightOperand, Operator, CallOn, NextSlot, Assign, Return}
 use Rattle.step_data.specs.declared.frame.Frame.{Frame}
@@ -36,9 +35,8 @@ abbrev pub use_of : SpecTree → Use → Place → ValueTree → Code
 use_of spec (RightOperand env right operator) place = right_operand (env_of env) (view_of right.now) operator place
 use_of spec (Operator operator left) place = operator_on operator place left
 use_of spec (CallOn name wanted) place = call_on spec name place (wanted_of wanted)
-use_of spec (NextSlot members next slots) place =
-    with_slot (initialise (class_of members.now) place (variables_from members.now next)) slots.items
-use_of spec (Assign env target) place = assigned (env_of env) (target_view target) place
+use_of spec (NextSlot members next slots) place = with_slot (initialise (class_of members.now) place (variables_from members.now next)) slots.items
+use_of spec (Assign env target) place = assigned (env_of env) (target_view target.now) place
 use_of spec Return place = return_value
 
 -- what is done with the result of a part
@@ -69,8 +67,7 @@ after_io table tree = make_class_objects 1 (class_names (table_spec table)) (par
 abbrev pub answered_of : Asking → Answer → Code
 answered_of (IoClass table tree) answer = after_io table.now (view_of tree.now)
 answered_of (TextClass class tree) answer = part (whole_expression (view_of tree.now)) end_with
-answered_of (Request call) answer =
-    ask (question_of (Activation call)) (activated (call_class call) call.me (call_operation call) call.place (wanted_of call.wanted))
+answered_of (Request call) answer = ask (question_of (Activation call)) (activated (call_class call) call.me (call_operation call) call.place (wanted_of call.wanted))
 answered_of (Activation call) answer = activated (call_class call) call.me (call_operation call) call.place (wanted_of call.wanted) answer
 answered_of (Finish call slot) answer = given (wanted_of call.wanted) call.place slot
 answered_of (Read me var place) answer = read_value place answer

@@ -20,7 +20,7 @@ pub enum Use<'t> {
     /// follow.
     NextSlot(&'t Members<'t>, usize, Vec<Slot>),
     /// It is assigned to the target.
-    Assign(Env<'t>, Target),
+    Assign(Env<'t>, &'t Target),
     /// It is returned.
     Return,
 }

@@ -7,7 +7,6 @@ ghost use Rattle.vdm_meaning.specs.Tasks.{spent};
 ghost use Rattle.step_data.specs.Parts.{task_of};
 
 use crate::env::Env;
-use crate::place::{expr_place, stmt_place};
 use vdm_kinds::Place;
 use vdm_tree::{Expr, Stmt};
 
@@ -27,8 +26,8 @@ impl<'t> Task<'t> {
         ensures { fault_at StepLimit result ≡ spent (task_of self.entry) }
     {
         match self {
-            Task::Expr(_, tree) | Task::Call(_, tree) => expr_place(tree),
-            Task::Stmt(_, tree) => stmt_place(tree),
+            Task::Expr(_, tree) | Task::Call(_, tree) => tree.place(),
+            Task::Stmt(_, tree) => tree.place(),
         }
     }
 }

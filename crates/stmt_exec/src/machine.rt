@@ -8,11 +8,9 @@ ghost use Rattle.class_table.specs.Tables.{table_spec};
 ghost use Rattle.step_data.specs.Steps.{busy, height};
 ghost use Rattle.stmt_exec.specs.Standing.{rest, rest_at, rest_weight, rank, load, stands_with, IsSpent};
 
-use crate::answered::answered_of;
-use crate::frame::then_of;
-use crate::task::plan_of;
 use class_table::Table;
 use main_steps::question_of;
+use next_steps::{answered_of, plan_of, then_of};
 use plans::take_unit;
 use run_journal::{Answer, Question};
 use std::alloc::Global;

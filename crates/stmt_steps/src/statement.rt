@@ -3,8 +3,10 @@
 ghost use Rattle.std.specs.Prelude.{◌≡◌, ◌≤◌, option_map};
 ghost use Rattle.std.specs.Borrow.{Bor};
 ghost use Rattle.abstract_syntax.specs.Classes.{SpecTree};
+ghost use Rattle.vdm_meaning.specs.Tasks.{inside};
 ghost use Rattle.vdm_meaning.specs.Statements.{stmt_plan, assigned, write_found, called, unless_returned, sequence, returned_of, return_value, written};
-ghost use Rattle.vdm_tree.specs.StmtView.{stmt_view, target_view, boxed_view};
+ghost use Rattle.vdm_tree.specs.View.{boxed_view};
+ghost use Rattle.vdm_tree.specs.StmtView.{stmt_view, target_view};
 ghost use Rattle.vdm_tree.specs.ClassView.{variable_view};
 ghost use Rattle.vdm_tree.specs.declared.class_def.VarDef.{VarDef};
 ghost use Rattle.class_table.specs.Tables.{class_of};
@@ -25,11 +27,12 @@ pub fn statement<'t>(env: Env<'t>, tree: &'t Stmt) -> Step<'t>
     match tree {
         Stmt::Assign(target, value, place) => Step::Part(
             Task::Expr(env, value),
-            Frame::With(Use::Assign(env, *target), *place),
+            Frame::With(Use::Assign(env, target), *place),
         ),
         Stmt::Call(application, _) => Step::Part(Task::Call(env, application), Frame::Called),
         Stmt::Block(_, statements, _) => sequence(env, statements.as_slice()),
         Stmt::Return(value, place) => returned_of(env, value, *place),
+        _ => Step::Fail(RunFault::Undefined, tree.place()),
     }
 }
 
@@ -81,15 +84,31 @@ pub fn return_value<'t>(value: Value) -> Step<'t>
 }
 
 /// The value is assigned to the target.
-pub fn assigned<'t>(env: Env<'t>, target: Target, place: Place, value: Value) -> Step<'t>
-    ensures { (spec : SpecTree) → code_of spec result ≡ assigned (env_of env.entry) (target_view target) place value }
+pub fn assigned<'t>(env: Env<'t>, target: &'t Target, place: Place, value: Value) -> Step<'t>
+    ensures { (spec : SpecTree) → code_of spec result ≡ assigned (env_of env.entry) (target_view target.now) place value }
 {
-    let Target::Name(name, _) = target;
     match env {
         Env::Outside => Step::Fail(RunFault::Undefined, place),
-        Env::Inside(me, members) => {
-            write_found(me, members, members.variable(name), place, value)
-        }
+        Env::Inside(me, members) => assigned_in(me, members, target, place, value),
+    }
+}
+
+/// The value is assigned to a variable of the object. So far no text assigns to a part of one.
+fn assigned_in<'t>(
+    me: u32,
+    members: &'t Members<'t>,
+    target: &'t Target,
+    place: Place,
+    value: Value,
+) -> Step<'t>
+    ensures { (spec : SpecTree) → code_of spec result ≡ assigned (inside me (class_of members.now)) (target_view target.now) place value }
+{
+    let Target::Name(name, steps, _) = target else {
+        return Step::Fail(RunFault::Undefined, place);
+    };
+    match steps.as_slice() {
+        [] => write_found(me, members, members.variable(*name), place, value),
+        [_, ..] => Step::Fail(RunFault::Undefined, place),
     }
 }
 
@@ -106,7 +125,7 @@ fn write_found<'t>(
     let Some(variable) = variable else {
         return Step::Fail(RunFault::Undefined, place);
     };
-    if !fits(variable.declared, &value) {
+    if !fits(&variable.declared, &value) {
         return Step::Fail(RunFault::TypeFault, place);
     }
     let var = variable_ref(members, variable);

@@ -3,7 +3,7 @@ use Rattle.std.specs.Prelude.{◌≡◌, ℕ, ◌≤◌, List, [], ◌∷◌, le
 use Rattle.std.specs.List.{AllByRecursion as Each}
 use Rattle.std.proofs.Common.{subst, arith, inl, inr}
 use Rattle.abstract_syntax.specs.Classes.{SpecTree}
-use Rattle.abstract_syntax.specs.Expressions.{ExprTree, whole, named, joined, apply, create, select}
+use Rattle.abstract_syntax.specs.Expressions.{ExprTree, create}
 use Rattle.run_journal.specs.declared.deed.Deed.{Deed}
 use Rattle.run_journal.specs.declared.deed.Deed.TheVariants.{End as Ends, Fail}
 use Rattle.run_journal.specs.declared.entry.Entry.{Entry}
@@ -88,12 +88,8 @@ means_read source given spec given_text text names journal end same same_text ca
 
 -- what may be run is no new object alone
 pub expression-no_object : (tree : ExprTree) → IsExpression tree → GivesNoObject tree
-expression-no_object (whole n place) h = tt
-expression-no_object (named name place) h = tt
-expression-no_object (joined left operator right place) h = tt
-expression-no_object (apply head arguments place) h = tt
-expression-no_object (select target name name_place place) h = tt
 expression-no_object (create class class_place arguments place) h = elim h [ inl sum ↦ absurd sum | inr new ↦ absurd new ]
+expression-no_object _ h = tt
 
 -- what a call refuses is handed on as it was
 pub handed_on : {T U : Type 0} (result : Result U (Halt SpecFault)) (inner outer : Halt SpecFault) (fault : SpecFault) → result ≡ Err (Of fault) → result ≡ Err outer → outer ≡ inner → (other : Result T (Halt SpecFault)) → other ≡ Err inner → other ≡ Err (Of fault)

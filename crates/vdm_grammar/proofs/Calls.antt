@@ -3,11 +3,14 @@
 use Rattle.std.proofs.Common.{◌≡◌, ◌≤◌, inl, inr, List, [], ◌∷◌, ◌++◌, Some, None, refl, sym, subst, arith}
 use Rattle.vdm_kinds.specs.declared.place.Place.{Place}
 use Rattle.vdm_kinds.specs.declared.name.Name.{Name as NameNumber}
-use Rattle.abstract_syntax.specs.Expressions.{ExprTree, whole, named, joined, apply, create, select, no_exprs}
+use Rattle.vdm_kinds.specs.declared.sign.Sign.TheVariants.{Plus}
+use Rattle.abstract_syntax.specs.Literals.{whole_literal}
+use Rattle.abstract_syntax.specs.Expressions.{ExprTree, literal, named, joined, apply, create, select, no_exprs}
 use Rattle.vdm_grammar.specs.declared.mark.Mark.TheVariants as mark
 use Rattle.vdm_grammar.specs.declared.token.Token.{Token}
 use Rattle.vdm_grammar.specs.declared.token.TokenKind.TheVariants.{Name, Whole}
-use Rattle.vdm_grammar.specs.Grammar.{IsSum, IsCallOfNew, IsExpression, expr_depth, depth_limit}
+use Rattle.abstract_syntax.specs.Depth.{expr_depth}
+use Rattle.vdm_grammar.specs.Grammar.{IsSum, IsCallOfNew, IsExpression, depth_limit}
 use Rattle.vdm_grammar.specs.Spelling.{at, sign, sign_at_place, expr_spelling}
 use Rattle.vdm_grammar.specs.Reading.{onto, mark_in, name_in, brackets_in, sum_in, new_in, call_on, expr_in}
 use Rattle.vdm_grammar.proofs.Fronts.{Front, ◌⟫◌, split, Reads, reads, reads-more, onto-reads, choice-reads, onto-is, choice-is, choice-other}
@@ -61,12 +64,10 @@ expr_in-reads tokens =
 
 -- a sum does not begin with `new`
 no_new : (tree : ExprTree) {tokens rest : List Token} → IsSum tree → Front tokens (expr_spelling tree) rest → mark_in mark.New tokens ≡ None
-no_new (whole n place) s h = other_mark mark.New (at (Whole n) place) refl h
+no_new (literal (whole_literal n) place) s h = other_mark mark.New (at (Whole n) place) refl h
 no_new (named name place) s h = other_mark mark.New (at (Name name) place) refl h
-no_new (joined left operator right place) s h = no_new left s.0 (split (expr_spelling left) (sign_at_place mark.Plus place ∷ expr_spelling right) h).first
-no_new (apply head arguments place) s h = absurd s
-no_new (create class class_place arguments place) s h = absurd s
-no_new (select target name name_place place) s h = absurd s
+no_new (joined left Plus right place) s h = no_new left s.0 (split (expr_spelling left) (sign_at_place mark.Plus place ∷ expr_spelling right) h).first
+no_new _ s h = absurd s
 
 -- the parts of a call are read one after the other
 new_in-is : (class : NameNumber) (class_place place : Place) {tokens rest : List Token} → Front tokens (at (Name class) class_place ∷ sign mark.Open ∷ sign mark.Close ∷ []) rest → new_in place tokens ≡ Some (create class class_place no_exprs place, rest)

@@ -5,7 +5,8 @@ use Rattle.abstract_syntax.specs.Statements.{StmtTree, block, one_stmt}
 use Rattle.vdm_grammar.specs.declared.mark.Mark.TheVariants as mark
 use Rattle.vdm_grammar.specs.declared.token.Token.{Token}
 use Rattle.vdm_grammar.specs.declared.token.TokenKind.TheVariants.{Name}
-use Rattle.vdm_grammar.specs.Grammar.{IsStatement, AreStatements, stmt_depth, stmts_depth}
+use Rattle.abstract_syntax.specs.Depth.{stmt_depth, stmts_depth}
+use Rattle.vdm_grammar.specs.Grammar.{IsStatement, AreStatements}
 use Rattle.vdm_grammar.specs.Spelling.{at, sign, sign_at_place, stmt_spelling, stmts_spelling}
 use Rattle.vdm_grammar.specs.Reading.{Read, mark_in, name_in, NameAt, sum_in, assigned, called, named_stmt, stmts_on, as_trees, stmt_in}
 use Rattle.vdm_grammar.proofs.Fronts.{Front, ◌⟫◌, no_front, Reads, reads, reads_nothing, reads-more, onto-reads, choice-reads}

@@ -2,12 +2,14 @@
 use Rattle.std.proofs.Common.{◌≡◌, ◌≤◌, ◌<◌, ℕ, zero, suc, List, [], ◌∷◌, ◌++◌, length, length-append, Some, None, refl, ap, sym, ◌∙◌, subst, arith, append_assoc}
 use Rattle.vdm_kinds.specs.declared.place.Place.{Place}
 use Rattle.vdm_kinds.specs.declared.name.Name.{Name as NameNumber}
-use Rattle.abstract_syntax.specs.Expressions.{ExprTree, whole, named, joined, apply, create, select, no_exprs, one_expr}
+use Rattle.abstract_syntax.specs.Literals.{whole_literal}
+use Rattle.abstract_syntax.specs.Expressions.{ExprTree, literal, named, joined, apply, create, select, no_exprs, one_expr}
 use Rattle.abstract_syntax.specs.Statements.{variable, DclTree, StmtTree, StmtTrees, assign, call, block, returns, no_stmts, one_stmt}
 use Rattle.vdm_grammar.specs.declared.mark.Mark.TheVariants as mark
 use Rattle.vdm_grammar.specs.declared.token.Token.{Token}
 use Rattle.vdm_grammar.specs.declared.token.TokenKind.TheVariants.{Name}
-use Rattle.vdm_grammar.specs.Grammar.{IsSum, IsStatement, AreStatements, expr_depth, stmt_depth, stmts_depth}
+use Rattle.abstract_syntax.specs.Depth.{expr_depth, stmt_depth, stmts_depth}
+use Rattle.vdm_grammar.specs.Grammar.{IsSum, IsStatement, AreStatements}
 use Rattle.vdm_grammar.specs.Spelling.{Written, at, sign, sign_at_place, expr_spelling, stmt_spelling, stmts_spelling, further_spelling}
 use Rattle.vdm_grammar.specs.Reading.{Read, mark_in, name_in, sum_in, called, named_stmt, stmts_on, as_trees, stmt_in}
 use Rattle.vdm_grammar.proofs.Fronts.{Front, split, Front-length, Front-nil, onto-is, choice-is, choice-other}
@@ -27,7 +29,7 @@ name_first room s name place ws tokens middle rest h k e =
     (onto-is (name_in tokens) _ _ (record { name = name; place = place }) middle (name_in-at name place k) e))
 
 -- an assignment
-assign-is : (room : ℕ) (name : NameNumber) (place : Place) (value : ExprTree) (tokens rest : List Token) → IsSum value → Front tokens (at (Name name) place ∷ sign mark.Becomes ∷ expr_spelling value) rest → expr_depth value ≤ room → mark_in mark.Plus rest ≡ None → stmt_in (suc room) tokens ≡ Some (assign (variable name place) value place, rest)
+assign-is : (room : ℕ) (name : NameNumber) (place : Place) (value : ExprTree) (tokens rest : List Token) → IsSum value → Front tokens (at (Name name) place ∷ sign mark.Becomes ∷ expr_spelling value) rest → expr_depth value ≤ room → mark_in mark.Plus rest ≡ None → stmt_in (suc room) tokens ≡ Some (assign (variable name [] place) value place, rest)
 assign-is room name place value tokens rest s h d e =
     let a = split (at (Name name) place ∷ []) (sign mark.Becomes ∷ expr_spelling value) h in
     let b = split (sign mark.Becomes ∷ []) (expr_spelling value) a.second in
@@ -101,33 +103,26 @@ block-is room r s others place tokens rest g h d e =
     (stmts_on-is room (stmt_in room) r (length a.middle) [] s others a.middle b.middle g.2 b.first (omega arith) enough p q)
     (onto-sign mark.Close b.middle _ _ b.second (λ close. refl)))
 
-stmt_depth-positive : (s : StmtTree) → 1 ≤ stmt_depth s
-stmt_depth-positive (assign target value place) = omega arith
-stmt_depth-positive (call application place) = omega arith
-stmt_depth-positive (block locals statements place) = omega arith
-stmt_depth-positive (returns value place) = omega arith
+stmt_depth-positive : (s : StmtTree) → IsStatement s → 1 ≤ stmt_depth s
+stmt_depth-positive (assign target value place) g = omega arith
+stmt_depth-positive (call application place) g = omega arith
+stmt_depth-positive (block locals statements place) g = omega arith
+stmt_depth-positive (returns value place) g = omega arith
+stmt_depth-positive _ g = absurd g
 
 pub stmt_in-is : (room : ℕ) (s : StmtTree) → IsRead (stmt_in room) room s
-stmt_in-is zero s tokens rest g h d e = let k = stmt_depth-positive s in absurd (omega arith)
-stmt_in-is (suc room) (assign (variable name at_name) value place) tokens rest g h d e =
-    assign-is room name at_name value tokens rest g.1 h (omega arith) e ∙ ap (λ (p : Place). Some (assign (variable name at_name) value p, rest)) (sym g.0)
+stmt_in-is zero s tokens rest g h d e = let k = stmt_depth-positive s g in absurd (omega arith)
+stmt_in-is (suc room) (assign (variable name [] at_name) value place) tokens rest g h d e =
+    assign-is room name at_name value tokens rest g.1 h (omega arith) e ∙ ap (λ (p : Place). Some (assign (variable name [] at_name) value p, rest)) (sym g.0)
+stmt_in-is (suc room) (assign _ value place) tokens rest g h d e = absurd g.0
 stmt_in-is (suc room) (call (apply (named name at_name) no_exprs bracket) place) tokens rest g h d e =
     call-is room name at_name bracket tokens rest h (omega arith) ∙ ap (λ (p : Place). Some (call (apply (named name at_name) no_exprs bracket) p, rest)) (sym g)
-stmt_in-is (suc room) (call (apply (named name at_name) (one_expr e es) bracket) place) tokens rest g h d k = absurd g
-stmt_in-is (suc room) (call (apply (whole n p) arguments bracket) place) tokens rest g h d e = absurd g
-stmt_in-is (suc room) (call (apply (joined l o r p) arguments bracket) place) tokens rest g h d e = absurd g
-stmt_in-is (suc room) (call (apply (apply f es p) arguments bracket) place) tokens rest g h d e = absurd g
-stmt_in-is (suc room) (call (apply (create c q es p) arguments bracket) place) tokens rest g h d e = absurd g
-stmt_in-is (suc room) (call (apply (select t n q p) arguments bracket) place) tokens rest g h d e = absurd g
-stmt_in-is (suc room) (call (whole n p) place) tokens rest g h d e = absurd g
-stmt_in-is (suc room) (call (named n p) place) tokens rest g h d e = absurd g
-stmt_in-is (suc room) (call (joined l o r p) place) tokens rest g h d e = absurd g
-stmt_in-is (suc room) (call (create c q es p) place) tokens rest g h d e = absurd g
-stmt_in-is (suc room) (call (select t n q p) place) tokens rest g h d e = absurd g
+stmt_in-is (suc room) (call _ place) tokens rest g h d e = absurd g
 stmt_in-is (suc room) (block locals no_stmts place) tokens rest g h d e = absurd (g.1 refl)
 stmt_in-is (suc room) (block locals (one_stmt s others) place) tokens rest g h d e =
     let P : StmtTrees → Type 0 = λ ss. IsRead (stmt_in (suc room)) (suc room) (block [] (one_stmt s ss) place) in
-    subst P (as_trees-listed others) (block-is room (stmt_in-is room) s (listed others) place) tokens rest (refl, g.1, g.2) h d e
+    subst P (as_trees-listed others) (block-is room (stmt_in-is room) s (listed others) place) tokens rest (refl, g.1, g.2) h (omega arith) e
     ∙ ap (λ (l : List DclTree). Some (block l (one_stmt s others) place, rest)) (sym g.0)
 stmt_in-is (suc room) (returns None place) tokens rest g h d e = absurd g
 stmt_in-is (suc room) (returns (Some value) place) tokens rest g h d e = returns-is room value place tokens rest g h (omega arith) e
+stmt_in-is (suc room) _ tokens rest g h d e = absurd g

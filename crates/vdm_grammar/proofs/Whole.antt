@@ -42,7 +42,7 @@ class-read tokens (Some class) tree e k =
     let h = read-is (class_in tokens) _ class [] (class_in-reads tokens) (whole_of-some _ class e) in
     let s : IsSpecOf tokens (one_class class) = record {
       written = AreTokens-front (h.front ⟫ no_front []);
-      grammatical = h.blocks.grammatical;
+      grammatical = (h.superclasses, h.blocks.grammatical);
       shallow = (h.blocks.shallow, tt);
     } in
     let same : one_class class ≡ tree = cc in

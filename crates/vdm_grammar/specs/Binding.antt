@@ -1,14 +1,44 @@
 -- What the names of a specification stand for: members that differ, variables in sums and before `:=`, and operations that are
 -- called; and where a value is returned.
-use Rattle.std.specs.Prelude.{Bool, true, false, ◌&&◌, not, if◌then◌else◌, List, [], ◌∷◌, ◌++◌, map, filter, is_none, is_some, Option}
-use Rattle.std.specs.Prelude.{Some, None, option_and_then}
+use Rattle.std.specs.Prelude.{
+  Bool,
+  true,
+  false,
+  ◌&&◌,
+  not,
+  if◌then◌else◌,
+  List,
+  [],
+  ◌∷◌,
+  ◌++◌,
+  map,
+  filter,
+  is_none,
+  is_some,
+  Option,
+  Some,
+  None,
+  option_and_then,
+}
 use Rattle.std.specs.List.{list_any, list_all}
 use Rattle.vdm_kinds.specs.NameList.{io}
 use Rattle.vdm_kinds.specs.declared.name.Name.{Name}
-use Rattle.abstract_syntax.specs.Expressions.{ExprTree, whole, named, joined, apply, create, select}
+use Rattle.abstract_syntax.specs.Literals.{whole_literal}
+use Rattle.abstract_syntax.specs.Expressions.{ExprTree, literal, named, joined, apply, create, select}
 use Rattle.abstract_syntax.specs.Statements.{TargetTree, variable, StmtTree, StmtTrees, assign, call, block, returns, no_stmts, one_stmt}
-use Rattle.abstract_syntax.specs.Classes.{VariableTree, OperationTree, ClassTree, SpecTree, is_same_name, class_variables}
-use Rattle.abstract_syntax.specs.Classes.{class_operations, operation_named, class_named}
+use Rattle.abstract_syntax.specs.Classes.{
+  VariableTree,
+  Body,
+  written,
+  OperationTree,
+  ClassTree,
+  SpecTree,
+  is_same_name,
+  class_variables,
+  class_operations,
+  operation_named,
+  class_named,
+}
 
 abbrev pub is_among : Name → List Name → Bool
 is_among name names = list_any (is_same_name name) names
@@ -34,20 +64,19 @@ scope_of class = record {
 
 -- the names of the members, variables before operations
 abbrev pub member_names : ClassTree → List Name
-member_names class =
-    map (λ (v : VariableTree). v.name) (class_variables class) ++ map (λ (o : OperationTree). o.name) (class_operations class)
+member_names class = map (λ (v : VariableTree). v.name) (class_variables class) ++ map (λ (o : OperationTree). o.name)
+    (class_operations class)
 
 -- each name in a sum is a variable
 abbrev pub is_over : List Name → ExprTree → Bool
-is_over names (whole n place) = true
+is_over names (literal (whole_literal n) place) = true
 is_over names (named name place) = is_among name names
-is_over names (joined left operator right place) = is_over names left && is_over names right
-is_over names (apply head arguments place) = false
-is_over names (create class class_place arguments place) = false
-is_over names (select target name name_place place) = false
+is_over names (joined left sign right place) = is_over names left && is_over names right
+is_over names _ = false
 
 abbrev pub is_target : Scope → TargetTree → Bool
-is_target scope (variable name place) = is_among name scope.variables
+is_target scope (variable name [] place) = is_among name scope.variables
+is_target scope _ = false
 
 -- what is called is an operation without a result
 abbrev pub is_called : Scope → ExprTree → Bool
@@ -65,7 +94,7 @@ abbrev mutual
   is_plain scope (assign target value place) = is_target scope target && is_over scope.variables value
   is_plain scope (call application place) = is_called scope application
   is_plain scope (block locals statements place) = are_plain scope statements
-  is_plain scope (returns value place) = false
+  is_plain scope _ = false
 
   pub are_plain : Scope → StmtTrees → Bool
   are_plain scope no_stmts = true
@@ -88,14 +117,18 @@ is_returning scope (block locals statements place) = end_in_return scope stateme
 is_returning scope _ = false
 
 -- the body of an operation with a result is a block that ends in its return; without one it returns nothing
+abbrev pub is_body_of : Scope → Bool → Body StmtTree → Bool
+is_body_of scope without_result (written body) = if without_result then is_plain scope body else is_returning scope body
+is_body_of scope without_result _ = false
+
 abbrev pub is_body : Scope → OperationTree → Bool
-is_body scope o = if has_no_result o then is_plain scope o.body else is_returning scope o.body
+is_body scope o = is_body_of scope (has_no_result o) o.body
 
 -- the members' names differ from each other and from the class's name, which is not `IO`
 abbrev pub is_bound_class : ClassTree → Bool
 is_bound_class class =
-    not (is_same_name class.name io) && are_different (class.name ∷ member_names class)
-    && list_all (is_body (scope_of class)) (class_operations class)
+    not (is_same_name class.name io) && are_different (class.name ∷ member_names class) && list_all (is_body (scope_of class))
+    (class_operations class)
 
 abbrev pub is_bound : SpecTree → Bool
 is_bound spec = list_all is_bound_class spec.classes

@@ -1,12 +1,25 @@
 -- The tree that is read off tokens, from left to right: each gives what it read, and the tokens that are left.
 use Rattle.std.specs.Prelude.{ℕ, zero, suc, if◌then◌else◌, List, [], ◌∷◌, ◌++◌, length, Option, Some, None, option_map}
 use Rattle.vdm_kinds.specs.declared.name.Name.{Name as NameNumber}
-use Rattle.vdm_kinds.specs.declared.operator.Operator.TheVariants.{Plus as operator_plus}
+use Rattle.vdm_kinds.specs.declared.basic_type.BasicType.TheVariants.{Nat}
+use Rattle.vdm_kinds.specs.declared.sign.Sign.TheVariants.{Plus}
 use Rattle.vdm_kinds.specs.declared.place.Place.{Place}
-use Rattle.abstract_syntax.specs.Types.{TypeTree, nat}
-use Rattle.abstract_syntax.specs.Expressions.{ExprTree, whole, named, joined, apply, create, select, no_exprs}
+use Rattle.abstract_syntax.specs.Literals.{whole_literal}
+use Rattle.abstract_syntax.specs.Types.{TypeTree, basic_type}
+use Rattle.abstract_syntax.specs.Expressions.{ExprTree, literal, named, joined, apply, create, select, no_exprs}
 use Rattle.abstract_syntax.specs.Statements.{variable, StmtTree, StmtTrees, assign, call, block, returns, no_stmts, one_stmt}
-use Rattle.abstract_syntax.specs.Classes.{VariableTree, OperationTree, BlockTree, variables, operations, ClassTree, SpecTree, is_same_name}
+use Rattle.abstract_syntax.specs.Classes.{
+  VariableItem,
+  variable_item,
+  written,
+  OperationTree,
+  BlockTree,
+  variables,
+  operations,
+  ClassTree,
+  SpecTree,
+  is_same_name,
+}
 use Rattle.vdm_grammar.specs.declared.mark.Mark.{Mark as MarkKind}
 use Rattle.vdm_grammar.specs.declared.mark.Mark.TheVariants as mark
 use Rattle.vdm_grammar.specs.declared.token.Token.{Token}
@@ -60,7 +73,7 @@ name_again name tokens = onto (name_in tokens) (same_name name)
 -- ---- sums
 
 abbrev pub literal_of_kind : TokenKind → Place → List Token → Read ExprTree
-literal_of_kind (Whole n) place tokens = Some (whole n place, tokens)
+literal_of_kind (Whole n) place tokens = Some (literal (whole_literal n) place, tokens)
 literal_of_kind (Name name) place tokens = None
 literal_of_kind (Mark m) place tokens = None
 
@@ -69,7 +82,7 @@ literal_in [] = None
 literal_in (token ∷ tokens) = literal_of_kind token.kind token.place tokens
 
 abbrev pub term_of_kind : TokenKind → Place → List Token → Read ExprTree
-term_of_kind (Whole n) place tokens = Some (whole n place, tokens)
+term_of_kind (Whole n) place tokens = Some (literal (whole_literal n) place, tokens)
 term_of_kind (Name name) place tokens = Some (named name place, tokens)
 term_of_kind (Mark m) place tokens = None
 
@@ -83,7 +96,7 @@ sum_on zero left tokens = choice (mark_in mark.Plus tokens) (λ (place : Place) 
 sum_on (suc room) left tokens =
     choice (mark_in mark.Plus tokens)
     (λ (place : Place) (behind : List Token). onto (term_in behind)
-    (λ (right : ExprTree) (rest : List Token). sum_on room (joined left operator_plus right place) rest))
+    (λ (right : ExprTree) (rest : List Token). sum_on room (joined left Plus right place) rest))
     (Some (left, tokens))
 
 -- a sum of at most as many terms as there is room for
@@ -117,8 +130,9 @@ call_on target tokens =
 
 -- the statement that a name begins: an assignment, or a call, which nests three nodes
 abbrev pub assigned : ℕ → NameAt → Place → List Token → Read StmtTree
-assigned room target equals tokens = onto (sum_in room tokens)
-    (λ (value : ExprTree) (rest : List Token). Some (assign (variable target.name target.place) value target.place, rest))
+assigned room target equals tokens =
+    onto (sum_in room tokens) (λ (value : ExprTree) (rest : List Token).
+    Some (assign (variable target.name [] target.place) value target.place, rest))
 
 abbrev pub call_closed : NameAt → Place → Place → List Token → Read StmtTree
 call_closed head bracket close tokens = Some (call (apply (named head.name head.place) no_exprs bracket) head.place, tokens)
@@ -129,8 +143,8 @@ called (suc zero) head bracket tokens = None
 called (suc (suc room)) head bracket tokens = onto (mark_in mark.Close tokens) (call_closed head bracket)
 
 abbrev pub named_stmt : ℕ → NameAt → List Token → Read StmtTree
-named_stmt room first tokens = choice (mark_in mark.Becomes tokens) (assigned room first)
-    (onto (mark_in mark.Open tokens) (called room first))
+named_stmt room first tokens =
+    choice (mark_in mark.Becomes tokens) (assigned room first) (onto (mark_in mark.Open tokens) (called room first))
 
 -- statements with a `;` between each two, behind those that were read: at most as many as there are turns
 abbrev pub stmts_on : (List Token → Read StmtTree) → ℕ → List StmtTree → List Token → Read (List StmtTree)
@@ -146,8 +160,9 @@ as_trees [] = no_stmts
 as_trees (s ∷ ss) = one_stmt s (as_trees ss)
 
 abbrev pub block_closed : Place → List StmtTree → List Token → Read StmtTree
-block_closed bracket statements tokens = onto (mark_in mark.Close tokens)
-    (λ (close : Place) (rest : List Token). Some (block [] (as_trees statements) bracket, rest))
+block_closed bracket statements tokens =
+    onto (mark_in mark.Close tokens) (λ (close : Place) (rest : List Token).
+    Some (block [] (as_trees statements) bracket, rest))
 
 abbrev pub returned : Place → ExprTree → List Token → Read StmtTree
 returned place value tokens = Some (returns (Some value) place, tokens)
@@ -165,10 +180,10 @@ stmt_in (suc room) tokens =
 -- ---- definitions
 
 abbrev pub type_in : List Token → Read TypeTree
-type_in tokens = onto (mark_in mark.Nat tokens) (λ (place : Place) (rest : List Token). Some (nat place, rest))
+type_in tokens = onto (mark_in mark.Nat tokens) (λ (place : Place) (rest : List Token). Some (basic_type Nat place, rest))
 
-abbrev pub variable_in : List Token → Read VariableTree
-variable_in tokens =
+abbrev pub item_in : List Token → Read VariableItem
+item_in tokens =
     onto (name_in tokens) (λ (name : NameAt) (a : List Token).
     onto (mark_in mark.Colon a) (λ (colon : Place) (b : List Token).
     onto (type_in b) (λ (declared : TypeTree) (c : List Token).
@@ -176,24 +191,24 @@ variable_in tokens =
     onto (literal_in d) (λ (value : ExprTree) (e : List Token).
     onto (mark_in mark.Semicolon e) (λ (semicolon : Place) (f : List Token).
     Some (
-      record {
+      variable_item (record {
         access = private_access;
         name = name.name;
         name_place = name.place;
         declared = declared;
         initial = Some value;
         place = name.place;
-      },
+      }),
       f,
     )))))))
 
 -- variables, behind those that were read: at most as many as there are turns, and as long as a name comes next
-abbrev pub variables_on : ℕ → List VariableTree → List Token → Read (List VariableTree)
-variables_on zero read tokens = None
-variables_on (suc turns) read tokens =
-    onto (variable_in tokens) (λ (variable : VariableTree) (rest : List Token).
-    choice (name_in rest) (λ (name : NameAt) (behind : List Token). variables_on turns (read ++ variable ∷ []) rest)
-    (Some (read ++ variable ∷ [], rest)))
+abbrev pub items_on : ℕ → List VariableItem → List Token → Read (List VariableItem)
+items_on zero read tokens = None
+items_on (suc turns) read tokens =
+    onto (item_in tokens) (λ (item : VariableItem) (rest : List Token).
+    choice (name_in rest) (λ (name : NameAt) (behind : List Token). items_on turns (read ++ item ∷ []) rest)
+    (Some (read ++ item ∷ [], rest)))
 
 -- the type of a result, or brackets where there is no result
 abbrev pub result_in : List Token → Read (Option TypeTree)
@@ -230,8 +245,12 @@ operation_in tokens =
         access = public_access;
         name = name.name;
         name_place = name.place;
+        parameters = [];
         result_type = result_type;
-        body = body;
+        patterns = [];
+        body = written body;
+        pre = None;
+        post = None;
         place = place;
       },
       d,
@@ -253,8 +272,8 @@ variable_blocks_in tokens =
     choice (mark_in mark.Instance tokens)
     (λ (place : Place) (a : List Token).
     onto (mark_in mark.Variables a) (λ (word : Place) (b : List Token).
-    onto (variables_on (length b) [] b) (λ (definitions : List VariableTree) (rest : List Token).
-    Some (variables definitions place ∷ [], rest))))
+    onto (items_on (length b) [] b) (λ (items : List VariableItem) (rest : List Token).
+    Some (variables items place ∷ [], rest))))
     (Some ([], tokens))
 
 -- a block of operations, where one comes next
@@ -279,7 +298,7 @@ class_in tokens =
     onto (blocks_in b) (λ (blocks : List BlockTree) (c : List Token).
     onto (mark_in mark.End c) (λ (end_place : Place) (d : List Token).
     onto (name_again name.name d) (λ (again : Place) (e : List Token).
-    Some (record { name = name.name; name_place = name.place; blocks = blocks; place = place }, e))))))
+    Some (record { name = name.name; name_place = name.place; superclasses = []; blocks = blocks; place = place }, e))))))
 
 -- ---- whole texts
 

@@ -7,9 +7,10 @@ use Rattle.vdm_kinds.specs.declared.spec_fault.SpecFault.{SpecFault}
 use Rattle.vdm_kinds.specs.declared.spec_kind.SpecKind.TheVariants.{SyntaxFault}
 use Rattle.abstract_syntax.specs.Expressions.{ExprTree}
 use Rattle.abstract_syntax.specs.Classes.{SpecTree}
+use Rattle.abstract_syntax.specs.Depth.{expr_depth}
 use Rattle.vdm_grammar.specs.declared.token.Token.{Token}
 use Rattle.vdm_grammar.specs.Binding.{is_bound, is_bound_in}
-use Rattle.vdm_grammar.specs.Grammar.{IsGrammatical, IsExpression, IsShallow, expr_depth, depth_limit}
+use Rattle.vdm_grammar.specs.Grammar.{IsGrammatical, IsExpression, IsShallow, depth_limit}
 use Rattle.vdm_grammar.specs.Lexemes.{Lexeme, lexemes_of}
 use Rattle.vdm_grammar.specs.Positions.{start_of}
 use Rattle.vdm_grammar.specs.Spelling.{AreTokens, spec_spelling, expr_spelling}

@@ -3,13 +3,14 @@ use Rattle.std.proofs.Common.{◌≡◌, ℕ, Bool, true, false, if◌then◌els
 use Rattle.vdm_kinds.specs.declared.name.Name.{Name}
 use Rattle.vdm_kinds.specs.declared.place.Place.{Place}
 use Rattle.vdm_kinds.specs.declared.run_fault.RunFault.{RunFault}
-use Rattle.vdm_kinds.specs.declared.run_fault.RunFault.TheVariants.{NoReturn, TypeFault}
+use Rattle.vdm_kinds.specs.declared.run_fault.RunFault.TheVariants.{NoReturn, TypeFault, Undefined}
 use Rattle.vdm_values.specs.declared.slot.Slot.{Slot}
 use Rattle.vdm_values.specs.declared.slot.Slot.TheVariants.{Unset, Held}
 use Rattle.abstract_syntax.specs.Values.{ValueTree, object}
 use Rattle.abstract_syntax.specs.Types.{TypeTree}
 use Rattle.abstract_syntax.specs.Expressions.{ExprTree, ExprTrees, named, select, no_exprs}
-use Rattle.abstract_syntax.specs.Classes.{OperationTree, ClassTree, SpecTree, operation_named, class_named}
+use Rattle.abstract_syntax.specs.Statements.{StmtTree}
+use Rattle.abstract_syntax.specs.Classes.{Body, written, OperationTree, ClassTree, SpecTree, operation_named, class_named}
 use Rattle.run_journal.specs.declared.answer.Answer.TheVariants.{Done}
 use Rattle.run_journal.specs.declared.deed.Deed.TheVariants as deed
 use Rattle.run_journal.specs.declared.entry.Entry.{Entry}
@@ -18,7 +19,7 @@ use Rattle.run_journal.specs.declared.thread.Thread.TheVariants.{Main}
 use Rattle.run_journal.specs.Made.{entry}
 use Rattle.run_journal.specs.Numbers.{IsNumberSlot}
 use Rattle.plans.specs.Plans.{ask}
-use Rattle.vdm_meaning.specs.Calls.{Wanted, a_value, no_value, given, operation_ref, left_by, tested, finished, activated, call_of, call_found, call_on_class, call_on, call_plan}
+use Rattle.vdm_meaning.specs.Calls.{Wanted, a_value, no_value, given, operation_ref, left_by, tested, finished, begun, activated, call_of, call_found, call_on_class, call_on, call_plan}
 use Rattle.vdm_meaning.specs.Tasks.{Env, inside, Flow, gave}
 use Rattle.vdm_meaning.specs.Types.{fits}
 use Rattle.vdm_meaning.proofs.Asking.{safe-ask}
@@ -67,11 +68,15 @@ module _ (spec : SpecTree) (tree : ExprTree) (left : List Entry → Flow → Typ
           (record { ready = (born-there spec after me class callee-done.stands, fin-waits before me (operation_ref class op) is_at.here.sane after w); sane = sane; numbers = tt })
           (safe-given (Some 0) (behind_finish after me (operation_ref class op)) env wanted place slot at-end h)
 
-    safe-activated : IsSafe spec tree left (Some 1) first (behind_activation before me (operation_ref class op)) (activated class me op place wanted Done)
-    safe-activated = (
+    safe-begun : (body : Body StmtTree) → IsSafe spec tree left (Some 1) first (behind_activation before me (operation_ref class op)) (begun class me op place wanted body)
+    safe-begun (written body) = (
       callee-begun,
       λ after flow w sane. safe-finished after w sane (tested op.result_type (left_by flow)) (tested-number op.result_type (left_by flow)),
     )
+    safe-begun _ = may-fail spec tree _ (inside me class) Undefined place callee-begun
+
+    safe-activated : IsSafe spec tree left (Some 1) first (behind_activation before me (operation_ref class op)) (activated class me op place wanted Done)
+    safe-activated = safe-begun op.body
 
     safe-requested : IsSafe spec tree left (Some 2) first (behind_request before me (operation_ref class op)) (ask (Act me (operation_ref class op)) (activated class me op place wanted))
     safe-requested =

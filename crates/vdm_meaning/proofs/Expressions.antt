@@ -4,12 +4,14 @@ use Rattle.vdm_kinds.specs.declared.member.VarRef.{VarRef}
 use Rattle.vdm_kinds.specs.declared.name.Name.{Name}
 use Rattle.vdm_kinds.specs.declared.operator.Operator.{Operator}
 use Rattle.vdm_kinds.specs.declared.place.Place.{Place}
+use Rattle.vdm_kinds.specs.Signs.{sign_operator}
 use Rattle.vdm_kinds.specs.declared.run_fault.RunFault.{RunFault}
 use Rattle.vdm_kinds.specs.declared.run_fault.RunFault.TheVariants.{Undefined}
 use Rattle.vdm_values.specs.declared.slot.Slot.{Slot}
 use Rattle.vdm_values.specs.declared.slot.Slot.TheVariants.{Unset, Held}
 use Rattle.abstract_syntax.specs.Values.{ValueTree, number}
-use Rattle.abstract_syntax.specs.Expressions.{ExprTree, whole, named, joined, apply, create, select}
+use Rattle.abstract_syntax.specs.Literals.{whole_literal}
+use Rattle.abstract_syntax.specs.Expressions.{ExprTree, literal, named, joined, apply, create, expr_place}
 use Rattle.abstract_syntax.specs.Classes.{VariableTree, ClassTree, SpecTree, variable_named, class_named}
 use Rattle.run_journal.specs.declared.answer.Answer.TheVariants.{Slot as Holds}
 use Rattle.run_journal.specs.declared.deed.Deed.TheVariants as deed
@@ -19,7 +21,7 @@ use Rattle.run_journal.specs.Made.{entry}
 use Rattle.run_journal.specs.Numbers.{IsNumber, IsNumberSlot}
 use Rattle.vdm_meaning.specs.Calls.{a_value}
 use Rattle.vdm_legal.specs.State.{variable_ref}
-use Rattle.vdm_meaning.specs.Expressions.{value_or_fault, operator_on, right_operand, read_value, read_found, expr_plan}
+use Rattle.vdm_meaning.specs.Expressions.{value_or_fault, operator_on, right_operand, joined_of, read_value, read_found, expr_plan}
 use Rattle.vdm_meaning.specs.Operators.{applied}
 use Rattle.vdm_meaning.specs.Tasks.{Env, outside, inside, expr_in, Flow, gave}
 use Rattle.vdm_meaning.proofs.Asking.{safe-Read}
@@ -54,8 +56,9 @@ module _ (spec : SpecTree) (tree : ExprTree) where
         safe-read_value (Some 2) (before ++ entry Main me (deed.Read (variable_ref class var) slot) ∷ []) (inside me class) place slot
         (at-later spec first before _ (inside me class) is_at within sane) (held-number spec before me (variable_ref class var) slot is_at.here.sane held))
 
-    safe-joined : (before : List Entry) (env : Env) (one : ExprTree) (operator : Operator) (other : ExprTree) (place : Place) → IsAt spec first before env → IsSafe spec tree left (Some 3) first before (expr_plan spec env (joined one operator other place))
-    safe-joined before env one operator other place is_at =
+    safe-joined : (before : List Entry) (env : Env) (one : ExprTree) (operator : Option Operator) (other : ExprTree) (place : Place) → IsAt spec first before env → IsSafe spec tree left (Some 3) first before (joined_of env one operator other place)
+    safe-joined before env one None other place is_at = may-fail spec tree before env Undefined place is_at.here
+    safe-joined before env one (Some operator) other place is_at =
         safe-expression spec tree left (Some 3) first before env one place (right_operand env other operator place) is_at (λ middle a at_middle a_known.
         safe-expression spec tree left (Some 3) first middle env other place (operator_on operator place a) at_middle (λ after b at_after b_known.
         safe-value_or_fault (Some 3) after env place (applied operator a b) at_after (applied-number operator a b)))
@@ -64,12 +67,12 @@ module _ (spec : SpecTree) (tree : ExprTree) where
   from_number env e entries flow sane h = (sane, gives-known spec entries flow h, λ no_object. h)
 
   pub safe-expr : (env : Env) (e : ExprTree) (before : List Entry) → MayRun spec before env → IsSafe spec tree (MayLeave spec (expr_in env e)) (Some 3) before before (expr_plan spec env e)
-  safe-expr env (whole n place) before h = ((at-start spec before env h).within, from_number env (whole n place) before (gave (Held (number n))) h.sane tt)
+  safe-expr env (literal (whole_literal n) place) before h = ((at-start spec before env h).within, from_number env (literal (whole_literal n) place) before (gave (Held (number n))) h.sane tt)
   safe-expr outside (named name place) before h = may-fail spec tree before outside Undefined place h
   safe-expr (inside me class) (named name place) before h =
       safe-read_found (MayLeave spec (expr_in (inside me class) (named name place))) before (from_number (inside me class) (named name place)) before me class name (variable_named class name) place (at-start spec before (inside me class) h) refl
-  safe-expr env (joined one operator other place) before h =
-      safe-joined (MayLeave spec (expr_in env (joined one operator other place))) before (from_number env (joined one operator other place)) before env one operator other place (at-start spec before env h)
+  safe-expr env (joined one sign other place) before h =
+      safe-joined (MayLeave spec (expr_in env (joined one sign other place))) before (from_number env (joined one sign other place)) before env one (sign_operator sign) other place (at-start spec before env h)
   safe-expr env (apply head arguments place) before h =
       safe-call_plan spec tree (MayLeave spec (expr_in env (apply head arguments place))) before (from_number env (apply head arguments place)) before env head arguments place a_value (at-start spec before env h)
   safe-expr env (create class class_place arguments place) before h =
@@ -77,4 +80,4 @@ module _ (spec : SpecTree) (tree : ExprTree) where
       (at-start spec before outside (record { sane = h.sane; main = h.main; stands = tt }))
       (λ found e. class_named-itself spec class found e)
       (λ found entries o sane born. (sane, (found, refl, born), λ no_object. absurd no_object))
-  safe-expr env (select target name name_place place) before h = may-fail spec tree before env Undefined place h
+  safe-expr env e before h = may-fail spec tree before env Undefined (expr_place e) h

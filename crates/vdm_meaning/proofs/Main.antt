@@ -6,7 +6,7 @@ use Rattle.std.proofs.lemmas.List.Elements.{filter-append}
 use Rattle.vdm_kinds.specs.NameList.{io}
 use Rattle.vdm_kinds.specs.declared.name.Name.{Name}
 use Rattle.vdm_values.specs.declared.slot.Slot.{Slot}
-use Rattle.abstract_syntax.specs.Expressions.{ExprTree, whole, named, joined, apply, create, select}
+use Rattle.abstract_syntax.specs.Expressions.{ExprTree, apply}
 use Rattle.abstract_syntax.specs.Classes.{SpecTree, class_names}
 use Rattle.run_journal.specs.declared.answer.Answer.{Answer}
 use Rattle.run_journal.specs.declared.answer.Answer.TheVariants.{Done}
@@ -62,11 +62,7 @@ module _ (spec : SpecTree) where
 
   whole-leaves : (tree : ExprTree) (entries : List Entry) (flow : Flow) → MayLeave spec (whole_expression tree) entries flow → IsSane entries × (GivesNoObject tree → GivesNumber flow)
   whole-leaves (apply head arguments place) entries flow h = (h.0, λ no_object. h.1)
-  whole-leaves (whole n place) entries flow h = (h.0, h.2)
-  whole-leaves (named name place) entries flow h = (h.0, h.2)
-  whole-leaves (joined one operator other place) entries flow h = (h.0, h.2)
-  whole-leaves (create class class_place arguments place) entries flow h = (h.0, h.2)
-  whole-leaves (select target name name_place place) entries flow h = (h.0, h.2)
+  whole-leaves _ entries flow h = (h.0, h.2)
 
   module _ (tree : ExprTree) where
     safe-end_with : (before : List Entry) (flow : Flow) → IsAt spec [] before outside → (GivesNoObject tree → GivesNumber flow) → IsSafe spec tree LeavesAnEnd (Some 1) [] before (end_with flow)

@@ -21,3 +21,4 @@ sum-number _ _ = tt
 
 pub applied-number : (operator : Operator) (a b : ValueTree) → IfOk (applied operator a b) IsNumber
 applied-number Plus a b = sum-number a b
+applied-number _ a b = tt

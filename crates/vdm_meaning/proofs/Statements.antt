@@ -5,7 +5,7 @@ use Rattle.vdm_kinds.specs.declared.run_fault.RunFault.TheVariants.{TypeFault, U
 use Rattle.vdm_values.specs.declared.slot.Slot.TheVariants.{Held}
 use Rattle.abstract_syntax.specs.Values.{ValueTree}
 use Rattle.abstract_syntax.specs.Expressions.{ExprTree}
-use Rattle.abstract_syntax.specs.Statements.{TargetTree, variable, StmtTree, StmtTrees, assign, call, block, returns, no_stmts, one_stmt}
+use Rattle.abstract_syntax.specs.Statements.{TargetTree, variable, StmtTree, StmtTrees, assign, call, block, returns, no_stmts, one_stmt, stmt_place}
 use Rattle.abstract_syntax.specs.Classes.{VariableTree, ClassTree, SpecTree, variable_named}
 use Rattle.run_journal.specs.declared.deed.Deed.TheVariants as deed
 use Rattle.run_journal.specs.declared.entry.Entry.{Entry}
@@ -45,7 +45,8 @@ module _ (spec : SpecTree) (tree : ExprTree) (first : List Entry) where
 
   safe-assigned : (before : List Entry) (env : Env) (target : TargetTree) (place : Place) (v : ValueTree) → IsAt spec first before env → IsSafe spec tree LeavesSanity (Some 3) first before (assigned env target place v)
   safe-assigned before outside target place v is_at = may-fail spec tree before outside Undefined place is_at.here
-  safe-assigned before (inside me class) (variable name name_place) place v is_at = safe-write_found before me class (variable_named class name) place v is_at
+  safe-assigned before (inside me class) (variable name [] name_place) place v is_at = safe-write_found before me class (variable_named class name) place v is_at
+  safe-assigned before (inside me class) _ place v is_at = may-fail spec tree before (inside me class) Undefined place is_at.here
 
   safe-called : (n : Option ℕ) (before : List Entry) (env : Env) (flow : Flow) → IsAt spec first before env → IsSafe spec tree LeavesSanity n first before (called flow)
   safe-called n before env (gave (Held v)) is_at = (is_at.within, is_at.here.sane)
@@ -75,3 +76,4 @@ module _ (spec : SpecTree) (tree : ExprTree) (first : List Entry) where
   safe-statement env (returns None place) before is_at = (is_at.within, is_at.here.sane)
   safe-statement env (returns (Some e) place) before is_at =
       safe-expression spec tree LeavesSanity (Some 3) first before env e place return_value is_at (λ later v at_then known. (at_then.within, at_then.here.sane))
+  safe-statement env statement before is_at = may-fail spec tree before env Undefined (stmt_place statement) is_at.here

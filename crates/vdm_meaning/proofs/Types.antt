@@ -4,14 +4,15 @@ use Rattle.std.specs.List.{AllByRecursion as Each}
 use Rattle.vdm_values.specs.declared.slot.Slot.{Slot}
 use Rattle.vdm_values.specs.declared.slot.Slot.TheVariants.{Unset, Held}
 use Rattle.abstract_syntax.specs.Values.{ValueTree, number}
-use Rattle.abstract_syntax.specs.Types.{TypeTree, nat}
+use Rattle.vdm_kinds.specs.declared.basic_type.BasicType.TheVariants.{Nat}
+use Rattle.abstract_syntax.specs.Types.{TypeTree, basic_type}
 use Rattle.abstract_syntax.specs.Classes.{VariableTree}
 use Rattle.run_journal.specs.Numbers.{IsNumber, IsNumberSlot}
 use Rattle.vdm_meaning.specs.Types.{fits, slot_fits, all_fit}
 
 pub fits-number : (declared : TypeTree) (v : ValueTree) → fits declared v ≡ true → IsNumber v
-fits-number (nat place) (number n) e = tt
-fits-number (nat place) _ e = absurd (cc)
+fits-number (basic_type Nat place) (number n) e = tt
+fits-number _ _ e = absurd (cc)
 
 both-true : (a b : Bool) → (a && b) ≡ true → (a ≡ true) × (b ≡ true)
 both-true true b e = (refl, e)

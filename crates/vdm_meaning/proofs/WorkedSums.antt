@@ -1,13 +1,14 @@
 -- Sums worked out: what main's code asks for them.
 use Rattle.std.proofs.Common.{◌≡◌, ◌^◌, ◌-◌, [], ◌∷◌, refl}
 use Rattle.std.specs.Prelude.{pos}
-use Rattle.vdm_kinds.specs.declared.operator.Operator.TheVariants.{Plus}
+use Rattle.vdm_kinds.specs.declared.sign.Sign.TheVariants.{Plus}
 use Rattle.vdm_kinds.specs.declared.place.Place.{Place}
 use Rattle.vdm_kinds.specs.declared.run_fault.RunFault.TheVariants.{Overflow, StepLimit}
 use Rattle.vdm_values.specs.declared.slot.Slot.TheVariants.{Unset, Held}
 use Rattle.abstract_syntax.specs.Values.{number}
 use Rattle.abstract_syntax.specs.Classes.{ClassTree, SpecTree}
-use Rattle.abstract_syntax.specs.Expressions.{ExprTree, whole, joined}
+use Rattle.abstract_syntax.specs.Literals.{whole_literal}
+use Rattle.abstract_syntax.specs.Expressions.{ExprTree, literal, joined}
 use Rattle.run_journal.specs.declared.answer.Answer.TheVariants.{Done}
 use Rattle.run_journal.specs.declared.question.Question.TheVariants.{End, Fail}
 use Rattle.plans.specs.Plans.{meaning}
@@ -19,7 +20,7 @@ empty = record { classes = [] }
 
 -- the sum of two ones
 abbrev one_plus_one : Place → Place → Place → ExprTree
-one_plus_one p q plus = joined (whole (pos 1) p) Plus (whole (pos 1) q) plus
+one_plus_one p q plus = joined (literal (whole_literal (pos 1)) p) Plus (literal (whole_literal (pos 1)) q) plus
 
 pub one_and_one : (p q plus : Place) → main_code empty (one_plus_one p q plus) 3 (Done ∷ []) ≡ asks (End (Held (number (pos 2))))
 unfolding meaning
@@ -33,7 +34,7 @@ pub too_few_units : (p q plus : Place) → main_code empty (one_plus_one p q plu
 unfolding meaning
 too_few_units p q plus = refl
 
-pub one_too_many : (p q plus : Place) → main_code empty (joined (whole (pos (2 ^ 127 - 1)) p) Plus (whole (pos 1) q) plus) 3 (Done ∷ []) ≡ asks (Fail Overflow Unset plus)
+pub one_too_many : (p q plus : Place) → main_code empty (joined (literal (whole_literal (pos (2 ^ 127 - 1))) p) Plus (literal (whole_literal (pos 1)) q) plus) 3 (Done ∷ []) ≡ asks (Fail Overflow Unset plus)
 unfolding meaning
 one_too_many p q plus = refl
 

@@ -4,13 +4,14 @@ use Rattle.vdm_kinds.specs.declared.member.OpRef.{OpRef}
 use Rattle.vdm_kinds.specs.declared.name.Name.{Name}
 use Rattle.vdm_kinds.specs.declared.place.Place.{Place}
 use Rattle.vdm_kinds.specs.declared.run_fault.RunFault.{RunFault}
-use Rattle.vdm_kinds.specs.declared.run_fault.RunFault.TheVariants.{GuardFault, NoReturn, TypeFault}
+use Rattle.vdm_kinds.specs.declared.run_fault.RunFault.TheVariants.{GuardFault, NoReturn, TypeFault, Undefined}
 use Rattle.vdm_values.specs.declared.slot.Slot.{Slot}
 use Rattle.vdm_values.specs.declared.slot.Slot.TheVariants.{Unset, Held}
 use Rattle.abstract_syntax.specs.Values.{ValueTree, object}
 use Rattle.abstract_syntax.specs.Types.{TypeTree}
 use Rattle.abstract_syntax.specs.Expressions.{ExprTree, ExprTrees, named, select, no_exprs}
-use Rattle.abstract_syntax.specs.Classes.{OperationTree, ClassTree, SpecTree, operation_named, class_named}
+use Rattle.abstract_syntax.specs.Statements.{StmtTree}
+use Rattle.abstract_syntax.specs.Classes.{Body, written, OperationTree, ClassTree, SpecTree, operation_named, class_named}
 use Rattle.run_journal.specs.declared.answer.Answer.{Answer}
 use Rattle.run_journal.specs.declared.answer.Answer.TheVariants.{Inner}
 use Rattle.run_journal.specs.declared.question.Question.TheVariants.{Req, Act, Fin}
@@ -55,10 +56,15 @@ finished class me op place wanted (Ok slot) = ask (Fin me (operation_ref class o
 abbrev pub ended : ClassTree → ℕ → OperationTree → Place → Wanted → Flow → Code
 ended class me op place wanted flow = finished class me op place wanted (tested op.result_type (left_by flow))
 
+-- a body that is not there is undefined at the call
+abbrev pub begun : ClassTree → ℕ → OperationTree → Place → Wanted → Body StmtTree → Code
+begun class me op place wanted (written body) = part (stmt_in (inside me class) body) (ended class me op place wanted)
+begun class me op place wanted _ = fail (fault_at Undefined place)
+
 -- what follows the activation: the body, on the object; a permission that failed is a fault at the call
 abbrev pub activated : ClassTree → ℕ → OperationTree → Place → Wanted → Answer → Code
 activated class me op place wanted (Inner fault) = fail (fault_at GuardFault place)
-activated class me op place wanted _ = part (stmt_in (inside me class) op.body) (ended class me op place wanted)
+activated class me op place wanted _ = begun class me op place wanted op.body
 
 -- a call is asked for, and then its activation
 abbrev pub call_of : ClassTree → ℕ → OperationTree → Place → Wanted → Code

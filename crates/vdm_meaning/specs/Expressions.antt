@@ -3,11 +3,13 @@ use Rattle.std.specs.Prelude.{ℕ, Option, Some, None, Result, Ok, Err}
 use Rattle.vdm_kinds.specs.declared.name.Name.{Name}
 use Rattle.vdm_kinds.specs.declared.operator.Operator.{Operator}
 use Rattle.vdm_kinds.specs.declared.place.Place.{Place}
+use Rattle.vdm_kinds.specs.Signs.{sign_operator}
 use Rattle.vdm_kinds.specs.declared.run_fault.RunFault.{RunFault}
 use Rattle.vdm_kinds.specs.declared.run_fault.RunFault.TheVariants.{Undefined}
 use Rattle.vdm_values.specs.declared.slot.Slot.TheVariants.{Held}
 use Rattle.abstract_syntax.specs.Values.{ValueTree, number}
-use Rattle.abstract_syntax.specs.Expressions.{ExprTree, whole, named, joined, apply, create, select}
+use Rattle.abstract_syntax.specs.Literals.{whole_literal}
+use Rattle.abstract_syntax.specs.Expressions.{ExprTree, literal, named, joined, apply, create, expr_place}
 use Rattle.abstract_syntax.specs.Classes.{VariableTree, ClassTree, SpecTree, variable_named, class_named}
 use Rattle.run_journal.specs.declared.answer.Answer.{Answer}
 use Rattle.run_journal.specs.declared.answer.Answer.TheVariants.{Slot as Holds}
@@ -47,11 +49,16 @@ abbrev pub read_of : Env → Name → Place → Code
 read_of outside name place = fail (fault_at Undefined place)
 read_of (inside me class) name place = read_found me class (variable_named class name) place
 
--- So far no accepted text selects a variable.
+-- a strict operator evaluates its operands from left to right; so far no text has another one
+abbrev pub joined_of : Env → ExprTree → Option Operator → ExprTree → Place → Code
+joined_of env left (Some operator) right place = part (expr_in env left) (with_value place (right_operand env right operator place))
+joined_of env left None right place = fail (fault_at Undefined place)
+
+-- What no accepted text has is undefined so far.
 abbrev pub expr_plan : SpecTree → Env → ExprTree → Code
-expr_plan spec env (whole n place) = value (number n)
+expr_plan spec env (literal (whole_literal n) place) = value (number n)
 expr_plan spec env (named name place) = read_of env name place
-expr_plan spec env (joined left operator right place) = part (expr_in env left) (with_value place (right_operand env right operator place))
+expr_plan spec env (joined left sign right place) = joined_of env left (sign_operator sign) right place
 expr_plan spec env (apply head arguments place) = call_plan spec env head arguments place a_value
 expr_plan spec env (create class class_place arguments place) = new_of (class_named spec class) arguments place
-expr_plan spec env (select target name name_place place) = fail (fault_at Undefined place)
+expr_plan spec env tree = fail (fault_at Undefined (expr_place tree))

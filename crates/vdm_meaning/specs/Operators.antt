@@ -20,6 +20,7 @@ abbrev pub sum_of : ValueTree → ValueTree → Result ValueTree RunFault
 sum_of (number m) (number n) = in_range (m +ℤ n)
 sum_of a b = Err TypeFault
 
--- what an operator gives of its operands
+-- what an operator gives of its operands; so far no operator but `+` takes any
 abbrev pub applied : Operator → ValueTree → ValueTree → Result ValueTree RunFault
 applied Plus a b = sum_of a b
+applied _ a b = Err TypeFault

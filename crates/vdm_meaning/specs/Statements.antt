@@ -5,7 +5,19 @@ use Rattle.vdm_kinds.specs.declared.run_fault.RunFault.TheVariants.{InstanceInva
 use Rattle.vdm_values.specs.declared.slot.Slot.TheVariants.{Unset, Held}
 use Rattle.abstract_syntax.specs.Values.{ValueTree}
 use Rattle.abstract_syntax.specs.Expressions.{ExprTree}
-use Rattle.abstract_syntax.specs.Statements.{TargetTree, variable, StmtTree, StmtTrees, assign, call, block, returns, no_stmts, one_stmt}
+use Rattle.abstract_syntax.specs.Statements.{
+  TargetTree,
+  variable,
+  StmtTree,
+  StmtTrees,
+  assign,
+  call,
+  block,
+  returns,
+  no_stmts,
+  one_stmt,
+  stmt_place,
+}
 use Rattle.abstract_syntax.specs.Classes.{VariableTree, ClassTree, variable_named}
 use Rattle.run_journal.specs.declared.answer.Answer.{Answer}
 use Rattle.run_journal.specs.declared.answer.Answer.TheVariants.{Refused}
@@ -34,7 +46,8 @@ write_found me class (Some var) place v =
 
 abbrev pub assigned : Env → TargetTree → Place → ValueTree → Code
 assigned outside target place v = fail (fault_at Undefined place)
-assigned (inside me class) (variable name name_place) place v = write_found me class (variable_named class name) place v
+assigned (inside me class) (variable name [] name_place) place v = write_found me class (variable_named class name) place v
+assigned (inside me class) _ place v = fail (fault_at Undefined place)
 
 -- a call statement whose operation gives a value ends the body with that value
 abbrev pub called : Flow → Code
@@ -58,9 +71,10 @@ abbrev pub returned_of : Env → Option ExprTree → Place → Code
 returned_of env None place = finish (returned Unset)
 returned_of env (Some e) place = part (expr_in env e) (with_value place return_value)
 
--- So far no block has local variables.
+-- So far no block has local variables. What no accepted text has is undefined so far.
 abbrev pub stmt_plan : Env → StmtTree → Code
 stmt_plan env (assign target e place) = part (expr_in env e) (with_value place (assigned env target place))
 stmt_plan env (call application place) = part (call_in env application) called
 stmt_plan env (block locals statements place) = sequence env statements
 stmt_plan env (returns e place) = returned_of env e place
+stmt_plan env tree = fail (fault_at Undefined (stmt_place tree))

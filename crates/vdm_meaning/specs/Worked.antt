@@ -15,16 +15,18 @@ use Rattle.vdm_kinds.specs.declared.access.Level.TheVariants.{Private, Public}
 use Rattle.vdm_kinds.specs.declared.member.OpRef.{OpRef}
 use Rattle.vdm_kinds.specs.declared.member.VarRef.{VarRef}
 use Rattle.vdm_kinds.specs.declared.name.Name.{Name}
-use Rattle.vdm_kinds.specs.declared.operator.Operator.TheVariants.{Plus}
+use Rattle.vdm_kinds.specs.declared.basic_type.BasicType.TheVariants.{Nat}
+use Rattle.vdm_kinds.specs.declared.sign.Sign.TheVariants.{Plus}
 use Rattle.vdm_kinds.specs.declared.part.Part.TheVariants.{Spec, Expr}
 use Rattle.vdm_kinds.specs.declared.place.Place.{Place}
 use Rattle.vdm_values.specs.declared.slot.Slot.{Slot}
 use Rattle.vdm_values.specs.declared.slot.Slot.TheVariants.{Held}
 use Rattle.abstract_syntax.specs.Values.{number}
-use Rattle.abstract_syntax.specs.Types.{nat}
-use Rattle.abstract_syntax.specs.Expressions.{ExprTree, whole, named, joined, apply, create, select, no_exprs}
+use Rattle.abstract_syntax.specs.Types.{basic_type}
+use Rattle.abstract_syntax.specs.Literals.{whole_literal}
+use Rattle.abstract_syntax.specs.Expressions.{ExprTree, literal, named, joined, apply, create, select, no_exprs}
 use Rattle.abstract_syntax.specs.Statements.{variable, StmtTree, StmtTrees, assign, call, block, returns, no_stmts, one_stmt}
-use Rattle.abstract_syntax.specs.Classes.{VariableTree, OperationTree, variables, operations, SpecTree}
+use Rattle.abstract_syntax.specs.Classes.{VariableTree, variable_item, written, OperationTree, variables, operations, SpecTree}
 use Rattle.run_journal.specs.declared.answer.Answer.{Answer}
 use Rattle.run_journal.specs.declared.answer.Answer.TheVariants.{Done, Object, Slot as Holds}
 use Rattle.run_journal.specs.declared.question.Question.{Question}
@@ -58,8 +60,8 @@ variable_n = record {
   access = record { is_static = false; level = Private };
   name = n;
   name_place = in_spec 3 3;
-  declared = nat (in_spec 3 7);
-  initial = Some (whole (pos 0) (in_spec 3 14));
+  declared = basic_type Nat (in_spec 3 7);
+  initial = Some (literal (whole_literal (pos 0)) (in_spec 3 14));
   place = in_spec 3 3;
 }
 
@@ -68,10 +70,14 @@ operation_inc = record {
   access = record { is_static = false; level = Private };
   name = inc;
   name_place = in_spec 5 3;
+  parameters = [];
   result_type = None;
+  patterns = [];
   body =
-      assign (variable n (in_spec 6 12)) (joined (named n (in_spec 6 17)) Plus (whole (pos 1) (in_spec 6 21)) (in_spec 6 19))
-      (in_spec 6 12);
+      written (assign (variable n [] (in_spec 6 12))
+      (joined (named n (in_spec 6 17)) Plus (literal (whole_literal (pos 1)) (in_spec 6 21)) (in_spec 6 19)) (in_spec 6 12));
+  pre = None;
+  post = None;
   place = in_spec 5 3;
 }
 
@@ -92,8 +98,12 @@ operation_three = record {
   access = record { is_static = false; level = Public };
   name = three;
   name_place = in_spec 7 10;
-  result_type = Some (nat (in_spec 7 25));
-  body = block [] statements_three (in_spec 8 14);
+  parameters = [];
+  result_type = Some (basic_type Nat (in_spec 7 25));
+  patterns = [];
+  body = written (block [] statements_three (in_spec 8 14));
+  pre = None;
+  post = None;
   place = in_spec 7 3;
 }
 
@@ -102,7 +112,8 @@ counter_spec = record {
   classes = record {
     name = counter;
     name_place = in_spec 1 7;
-    blocks = variables (variable_n ∷ []) (in_spec 2 1) ∷ operations (operation_inc ∷ operation_three ∷ []) (in_spec 4 1) ∷ [];
+    superclasses = [];
+    blocks = variables (variable_item variable_n ∷ []) (in_spec 2 1) ∷ operations (operation_inc ∷ operation_three ∷ []) (in_spec 4 1) ∷ [];
     place = in_spec 1 1;
   } ∷ [];
 }

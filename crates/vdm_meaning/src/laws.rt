@@ -3,13 +3,14 @@
 ghost use Rattle.std.specs.Prelude.{◌≡◌, ℕ, ◌^◌, ◌-◌, List, [], ◌∷◌, ◌++◌, ◌⊎◌, pos, map, None, IsSome};
 ghost use Rattle.std.specs.List.{AllByRecursion as Each};
 ghost use Rattle.vdm_kinds.specs.NameList.{io};
-ghost use Rattle.vdm_kinds.specs.declared.operator.Operator.TheVariants.{Plus};
+ghost use Rattle.vdm_kinds.specs.declared.sign.Sign.TheVariants.{Plus};
 ghost use Rattle.vdm_kinds.specs.declared.place.Place.{Place};
 ghost use Rattle.vdm_kinds.specs.declared.run_fault.RunFault.TheVariants.{Overflow, StepLimit};
 ghost use Rattle.vdm_values.specs.declared.slot.Slot.TheVariants.{Unset, Held};
 ghost use Rattle.abstract_syntax.specs.Values.{number};
 ghost use Rattle.abstract_syntax.specs.Classes.{ClassTree, SpecTree};
-ghost use Rattle.abstract_syntax.specs.Expressions.{ExprTree, whole, joined};
+ghost use Rattle.abstract_syntax.specs.Literals.{whole_literal};
+ghost use Rattle.abstract_syntax.specs.Expressions.{ExprTree, literal, joined};
 ghost use Rattle.run_journal.specs.declared.answer.Answer.TheVariants.{Done};
 ghost use Rattle.run_journal.specs.declared.entry.Entry.{Entry};
 ghost use Rattle.run_journal.specs.declared.question.Question.{Question};
@@ -97,29 +98,29 @@ pub fn runs_keep_numbers()
 /// empty; and what it asks for `1 + 1` beside one class.
 pub fn worked_sums()
     ensures first { (p q plus : Place)
-        → main_code (record { classes = [] }) (joined (whole (pos 1) p) Plus (whole (pos 1) q) plus) 3 [] ≡ asks (Class 0 io []) }
+        → main_code (record { classes = [] }) (joined (literal (whole_literal (pos 1)) p) Plus (literal (whole_literal (pos 1)) q) plus) 3 [] ≡ asks (Class 0 io []) }
     ensures ends { (p q plus : Place)
-        → main_code (record { classes = [] }) (joined (whole (pos 1) p) Plus (whole (pos 1) q) plus) 3 (Done ∷ [])
+        → main_code (record { classes = [] }) (joined (literal (whole_literal (pos 1)) p) Plus (literal (whole_literal (pos 1)) q) plus) 3 (Done ∷ [])
         ≡ asks (End (Held (number (pos 2)))) }
     ensures stops { (p q plus : Place)
-        → main_code (record { classes = [] }) (joined (whole (pos 1) p) Plus (whole (pos 1) q) plus) 3 (Done ∷ Done ∷ []) ≡ over }
+        → main_code (record { classes = [] }) (joined (literal (whole_literal (pos 1)) p) Plus (literal (whole_literal (pos 1)) q) plus) 3 (Done ∷ Done ∷ []) ≡ over }
     ensures too_few_units { (p q plus : Place)
-        → main_code (record { classes = [] }) (joined (whole (pos 1) p) Plus (whole (pos 1) q) plus) 2 (Done ∷ [])
+        → main_code (record { classes = [] }) (joined (literal (whole_literal (pos 1)) p) Plus (literal (whole_literal (pos 1)) q) plus) 2 (Done ∷ [])
         ≡ asks (Fail StepLimit Unset q) }
     ensures overflows { (p q plus : Place)
-        → main_code (record { classes = [] }) (joined (whole (pos (2 ^ 127 - 1)) p) Plus (whole (pos 1) q) plus) 3 (Done ∷ [])
+        → main_code (record { classes = [] }) (joined (literal (whole_literal (pos (2 ^ 127 - 1))) p) Plus (literal (whole_literal (pos 1)) q) plus) 3 (Done ∷ [])
         ≡ asks (Fail Overflow Unset plus) }
     ensures first_beside_a_class { (class : ClassTree) (p q plus : Place)
-        → main_code (record { classes = class ∷ [] }) (joined (whole (pos 1) p) Plus (whole (pos 1) q) plus) 3 []
+        → main_code (record { classes = class ∷ [] }) (joined (literal (whole_literal (pos 1)) p) Plus (literal (whole_literal (pos 1)) q) plus) 3 []
         ≡ asks (Class 0 io []) }
     ensures makes_the_class { (class : ClassTree) (p q plus : Place)
-        → main_code (record { classes = class ∷ [] }) (joined (whole (pos 1) p) Plus (whole (pos 1) q) plus) 3 (Done ∷ [])
+        → main_code (record { classes = class ∷ [] }) (joined (literal (whole_literal (pos 1)) p) Plus (literal (whole_literal (pos 1)) q) plus) 3 (Done ∷ [])
         ≡ asks (Class 1 class.name []) }
     ensures ends_beside_a_class { (class : ClassTree) (p q plus : Place)
-        → main_code (record { classes = class ∷ [] }) (joined (whole (pos 1) p) Plus (whole (pos 1) q) plus) 3 (Done ∷ Done ∷ [])
+        → main_code (record { classes = class ∷ [] }) (joined (literal (whole_literal (pos 1)) p) Plus (literal (whole_literal (pos 1)) q) plus) 3 (Done ∷ Done ∷ [])
         ≡ asks (End (Held (number (pos 2)))) }
     ensures stops_beside_a_class { (class : ClassTree) (p q plus : Place)
-        → main_code (record { classes = class ∷ [] }) (joined (whole (pos 1) p) Plus (whole (pos 1) q) plus) 3 (Done ∷ Done ∷ Done ∷ [])
+        → main_code (record { classes = class ∷ [] }) (joined (literal (whole_literal (pos 1)) p) Plus (literal (whole_literal (pos 1)) q) plus) 3 (Done ∷ Done ∷ Done ∷ [])
         ≡ over }
 {}
 

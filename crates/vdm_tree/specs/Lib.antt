@@ -1,3 +1,5 @@
+pub mod Alternatives
 pub mod ClassView
+pub mod Literals
 pub mod StmtView
 pub mod View

@@ -1,12 +1,29 @@
 // Classes and what stands in them.
 
 use crate::expr::Expr;
+use crate::pattern::Pattern;
 use crate::stmt::Stmt;
+use crate::sync::{Sync, Thread};
+use crate::type_def::TypeDef;
 use crate::type_expr::TypeExpr;
-use vdm_kinds::{Access, Name, Place};
+use vdm_kinds::{Access, Name, NameAt, Place};
+
+/// A class value.
+#[derive(Drop)]
+pub struct ValueDef {
+    pub access: Access,
+    pub name: Name,
+    /// Where its name stands.
+    pub name_place: Place,
+    /// Its type, where one is given.
+    pub declared: Option<TypeExpr>,
+    pub value: Box<Expr>,
+    /// Where the definition begins.
+    pub place: Place,
+}
 
 /// An instance variable.
-#[derive(Debug, Drop)]
+#[derive(Drop)]
 pub struct VarDef {
     pub access: Access,
     pub name: Name,
@@ -19,37 +36,96 @@ pub struct VarDef {
     pub place: Place,
 }
 
-/// An operation, so far without parameters.
-#[derive(Debug, Drop)]
+/// What stands among instance variables.
+#[derive(Drop)]
+pub enum VariableItem {
+    Variable(VarDef),
+    /// `inv e`, at the place of the word.
+    Invariant(Box<Expr>, Place),
+}
+
+/// The body of a function or an operation.
+#[derive(Drop)]
+pub enum Body<T> {
+    Written(T),
+    /// `is not yet specified`
+    NotYetSpecified,
+    /// `is subclass responsibility`
+    SubclassResponsibility,
+}
+
+/// A function.
+#[derive(Drop)]
+pub struct FunctionDef {
+    pub access: Access,
+    pub name: Name,
+    /// Where its first name stands.
+    pub name_place: Place,
+    /// The types of its parameters: the factors of an unbracketed product.
+    pub parameters: Vec<TypeExpr>,
+    pub result_type: TypeExpr,
+    pub patterns: Vec<Pattern>,
+    pub body: Body<Box<Expr>>,
+    pub pre: Option<Box<Expr>>,
+    pub post: Option<Box<Expr>>,
+    /// Read, and not looked at.
+    pub measure: Option<Box<Expr>>,
+    /// Where the definition begins.
+    pub place: Place,
+}
+
+/// An operation.
+#[derive(Drop)]
 pub struct OpDef {
     pub access: Access,
     pub name: Name,
     /// Where its first name stands.
     pub name_place: Place,
+    /// The types of its parameters: the factors of an unbracketed product.
+    pub parameters: Vec<TypeExpr>,
     /// The type of its result, where it has a result.
     pub result_type: Option<TypeExpr>,
-    pub body: Box<Stmt>,
+    pub patterns: Vec<Pattern>,
+    pub body: Body<Box<Stmt>>,
+    pub pre: Option<Box<Expr>>,
+    pub post: Option<Box<Expr>>,
     /// Where the definition begins.
     pub place: Place,
 }
 
-/// A block of definitions, at the place of its first word.
-#[derive(Debug, Drop)]
+/// A block of definitions in text order, at the place of its first word.
+#[derive(Drop)]
 pub enum Block {
-    /// Instance variables, in text order.
-    Variables(Vec<VarDef>, Place),
-    /// Operations, in text order.
+    Types(Vec<TypeDef>, Place),
+    Values(Vec<ValueDef>, Place),
+    Variables(Vec<VariableItem>, Place),
+    Functions(Vec<FunctionDef>, Place),
     Operations(Vec<OpDef>, Place),
+    Thread(Thread, Place),
+    Sync(Vec<Sync>, Place),
 }
 
 /// A class.
-#[derive(Debug, Drop)]
 pub struct ClassDef {
     pub name: Name,
     /// Where its first name stands.
     pub name_place: Place,
+    pub superclasses: Vec<NameAt>,
     /// Its blocks, in text order.
     pub blocks: Vec<Block>,
     /// Where the word `class` stands.
     pub place: Place,
+}
+
+// A derived drop would be proved again, with those of all definitions, in each crate that drops a specification.
+impl Drop for ClassDef {
+    fn drop(self) {
+        let ClassDef {
+            name: _,
+            name_place: _,
+            superclasses: _,
+            blocks: _,
+            place: _,
+        } = self;
+    }
 }

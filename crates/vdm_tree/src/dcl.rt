@@ -4,13 +4,20 @@ use crate::expr::Expr;
 use crate::type_expr::TypeExpr;
 use vdm_kinds::{Name, Place};
 
-/// A local variable of a block.
-#[derive(Debug, Drop)]
-pub struct Dcl {
+/// A local variable.
+#[derive(Drop)]
+pub struct Local {
     pub name: Name,
     /// Where its name stands.
-    pub place: Place,
+    pub name_place: Place,
     pub declared: TypeExpr,
     /// Its initial value, where one is given.
     pub initial: Option<Box<Expr>>,
+}
+
+/// Local variables behind one word `dcl`, at the place of that word.
+#[derive(Drop)]
+pub struct Dcl {
+    pub locals: Vec<Local>,
+    pub place: Place,
 }

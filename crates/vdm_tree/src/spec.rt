@@ -3,7 +3,7 @@
 use crate::class_def::ClassDef;
 
 /// A specification: its classes, in text order.
-#[derive(Debug, Drop)]
+#[derive(Drop)]
 pub struct Spec {
     pub classes: Vec<ClassDef>,
 }

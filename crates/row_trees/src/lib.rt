@@ -1,0 +1,8 @@
+//! The desk with a specification and expressions, which the words of a request make too.
+#![tactic(auto)]
+
+mod specs;
+mod tree_desk;
+mod trees;
+
+pub use tree_desk::TreeDesk;

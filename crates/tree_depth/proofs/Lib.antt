@@ -1,0 +1,3 @@
+pub mod Groups
+pub mod Lists
+pub mod Reaching

@@ -1,0 +1,39 @@
+// The operands of operators, of tests and of what stands behind its operand.
+
+ghost use Rattle.std.specs.Prelude.{◌≡◌};
+ghost use Rattle.vdm_tree.specs.View.{view_of};
+ghost use Rattle.tree_depth.specs.Walks.{parts_depth};
+ghost use Rattle.tree_depth.specs.Groups.{operand_depth};
+
+use crate::part::{Part, Parts};
+use vdm_tree::Expr;
+
+/// The operands of an operator, a test or what stands behind its operand; of another expression nothing.
+pub(crate) fn operand_parts(expression: &Expr) -> Parts<'_>
+    ensures { parts_depth result ≡ operand_depth (view_of expression.now) }
+{
+    match expression {
+        Expr::Bracketed(operand, _)
+        | Expr::Prefix(_, operand, _)
+        | Expr::MakeToken(operand, _)
+        | Expr::IsOfNamed(_, operand, _)
+        | Expr::IsOfBasic(_, operand, _)
+        | Expr::IsOfClass(_, _, operand, _)
+        | Expr::IsOfBaseClass(_, _, operand, _)
+        | Expr::Select(operand, _, _, _)
+        | Expr::SelectOfClass(operand, _, _, _, _, _)
+        | Expr::SelectPart(operand, _, _) => Parts::One(Part::Expr(operand)),
+        Expr::Infix(left, _, right, _)
+        | Expr::SetRange(left, right, _)
+        | Expr::SameClass(left, right, _)
+        | Expr::SameBaseClass(left, right, _) => Parts::Two(Part::Expr(left), Part::Expr(right)),
+        Expr::IsOfType(operand, declared, _) => {
+            Parts::Two(Part::Expr(operand), Part::Declared(declared))
+        }
+        Expr::Apply(head, arguments, _) => Parts::Two(Part::Expr(head), Part::Exprs(arguments)),
+        Expr::Subsequence(target, first, last, _) => {
+            Parts::Three(Part::Expr(target), Part::Expr(first), Part::Expr(last))
+        }
+        _ => Parts::Nothing,
+    }
+}
