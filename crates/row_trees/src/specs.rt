@@ -9,7 +9,7 @@ use row_desk::MOST_NAMES;
 use row_words::Line;
 use std::alloc::Global;
 use std::mem;
-use vdm_kinds::{Halt, SpecFault};
+use vdm_kinds::{Halt, Place, SpecFault};
 use vdm_names::Names;
 use vdm_tree::{Block, ClassDef, Expr, Spec, VariableItem};
 
@@ -83,15 +83,20 @@ fn unset_last_of(class: &mut ClassDef) {
     }
 }
 
-fn put_apart(line: &mut Line<'_>, blocks: &mut Vec<Block>, block: Block) {
-    match block {
-        Block::Variables(items, place) => {
-            for item in items {
-                let mut alone = Vec::new(line.alloc());
-                line.put(&mut alone, item);
-                line.put(blocks, Block::Variables(alone, place));
-            }
-        }
-        operations => line.put(blocks, operations),
+fn put_apart(line: &mut Line<'_>, blocks: &mut Vec<Block>, mut block: Block) {
+    if let Block::Variables(items, place) = &mut block {
+        let place = *place;
+        let items = mem::replace(items, Vec::new(line.alloc()));
+        put_each(line, blocks, items, place);
+    } else {
+        line.put(blocks, block);
+    }
+}
+
+fn put_each(line: &mut Line<'_>, blocks: &mut Vec<Block>, items: Vec<VariableItem>, place: Place) {
+    for item in items {
+        let mut alone = Vec::new(line.alloc());
+        line.put(&mut alone, item);
+        line.put(blocks, Block::Variables(alone, place));
     }
 }

@@ -94,7 +94,6 @@ pub struct OpDef {
 }
 
 /// A block of definitions in text order, at the place of its first word.
-#[derive(Drop)]
 pub enum Block {
     Types(Vec<TypeDef>, Place),
     Values(Vec<ValueDef>, Place),
@@ -103,6 +102,21 @@ pub enum Block {
     Operations(Vec<OpDef>, Place),
     Thread(Thread, Place),
     Sync(Vec<Sync>, Place),
+}
+
+// A derived drop would be proved again, with those of all definitions, in each crate that drops a block or a specification.
+impl Drop for Block {
+    fn drop(self) {
+        match self {
+            Block::Types(_definitions, _place) => {}
+            Block::Values(_definitions, _place) => {}
+            Block::Variables(_items, _place) => {}
+            Block::Functions(_definitions, _place) => {}
+            Block::Operations(_definitions, _place) => {}
+            Block::Thread(_thread, _place) => {}
+            Block::Sync(_clauses, _place) => {}
+        }
+    }
 }
 
 /// A class.
@@ -117,7 +131,6 @@ pub struct ClassDef {
     pub place: Place,
 }
 
-// A derived drop would be proved again, with those of all definitions, in each crate that drops a specification.
 impl Drop for ClassDef {
     fn drop(self) {
         let ClassDef {
