@@ -1,8 +1,8 @@
-// Places and leaves that the tests share.
+// Places, names and leaves that the tests share.
 
 use std::alloc::Global;
-use vdm_kinds::{OutOfMemory, Part, Place};
-use vdm_tree::{Bind, Expr, Pattern};
+use vdm_kinds::{Name, OutOfMemory, Part, Place, TypeName};
+use vdm_tree::{Expr, Pattern};
 
 /// A place of its own for each number.
 pub(crate) fn at(line: u32) -> Place {
@@ -10,6 +10,14 @@ pub(crate) fn at(line: u32) -> Place {
         part: Part::Spec,
         line,
         column: 1,
+    }
+}
+
+pub(crate) fn type_name() -> TypeName {
+    TypeName {
+        class: None,
+        name: Name(1),
+        name_place: at(99),
     }
 }
 
@@ -23,7 +31,9 @@ pub(crate) fn any_value(alloc: Global) -> Result<Box<Pattern>, OutOfMemory> {
     Ok(Box::new(alloc, Pattern::AnyValue(at(99)))?)
 }
 
-/// A bind of no pattern.
-pub(crate) fn bind(alloc: Global) -> Result<Bind, OutOfMemory> {
-    Ok(Bind::new(Vec::new(alloc), leaf(alloc)?))
+/// The list of this one item.
+pub(crate) fn one<T: Drop>(alloc: Global, item: T) -> Result<Vec<T>, OutOfMemory> {
+    let mut items = Vec::new(alloc);
+    items.push(item)?;
+    Ok(items)
 }

@@ -1,11 +1,17 @@
-//! Tests of trees: kinds of expressions and statements, with places and depth.
+//! Tests of trees: every kind of expression, pattern and type, with its place and its depth.
 #![tactic(auto)]
 
 #[cfg(test)]
-mod binders;
+mod expressions;
 #[cfg(test)]
 mod helpers;
 #[cfg(test)]
-mod statements;
+mod listed;
 #[cfg(test)]
-mod towers;
+mod operands;
+#[cfg(test)]
+mod patterns;
+#[cfg(test)]
+mod quantified;
+#[cfg(test)]
+mod types;

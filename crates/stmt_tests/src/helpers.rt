@@ -1,0 +1,31 @@
+// Places and leaves that the tests share.
+
+use std::alloc::Global;
+use vdm_kinds::{OutOfMemory, Part, Place};
+use vdm_tree::{Expr, Pattern};
+
+/// A place of its own for each number.
+pub(crate) fn at(line: u32) -> Place {
+    Place {
+        part: Part::Spec,
+        line,
+        column: 1,
+    }
+}
+
+/// A leaf in a box.
+pub(crate) fn leaf(alloc: Global) -> Result<Box<Expr>, OutOfMemory> {
+    Ok(Box::new(alloc, Expr::SelfObject(at(99)))?)
+}
+
+/// A pattern in a box.
+pub(crate) fn any_value(alloc: Global) -> Result<Box<Pattern>, OutOfMemory> {
+    Ok(Box::new(alloc, Pattern::AnyValue(at(99)))?)
+}
+
+/// The list of this one item.
+pub(crate) fn one<T: Drop>(alloc: Global, item: T) -> Result<Vec<T>, OutOfMemory> {
+    let mut items = Vec::new(alloc);
+    items.push(item)?;
+    Ok(items)
+}
