@@ -2,7 +2,7 @@
 
 ghost use Rattle.std.specs.Prelude.{◌≡◌, ◌++◌, OnErr, OnOk};
 ghost use Rattle.std.specs.String.{string_bytes};
-ghost use Rattle.report_texts.specs.Log.{HasLogLine, log_line};
+ghost use Rattle.report_texts.specs.Log.{log_line};
 
 use crate::deed::push_deed;
 use crate::thread::push_thread;
@@ -20,31 +20,30 @@ pub fn log_line(
     names: &Names,
     out: &mut Vec<u8>,
 ) -> Result<(), OutOfMemory>
-    requires { HasLogLine e.now }
     ensures ok { OnOk result (out.new.items ≡ out.old.items ++ log_line names.now k e.now) }
     ensures err { OnErr result (out.new.items ≡ out.old.items) }
 {
     let mut text = String::new(alloc);
-    push_line(&mut text, k, e, names)?;
+    push_line(alloc, &mut text, k, e, names)?;
     out.extend_from_slice(text.as_bytes())?;
     Ok(())
 }
 
 /// Appends the line of an entry to a string, as ``9 main 2 write Counter`n = 1``. A refusal may leave a part of it there.
 pub(crate) fn push_line(
+    alloc: Global,
     text: &mut String,
     k: u64,
     e: &Entry,
     names: &Names,
 ) -> Result<(), OutOfMemory>
-    requires { HasLogLine e.now }
     ensures { OnOk result (string_bytes text.new ≡ string_bytes text.old ++ log_line names.now k e.now) }
 {
     write!(text, "{k} ")?;
-    push_thread(text, e.thread)?;
+    push_thread(alloc, text, e.thread)?;
     let object = e.object;
     write!(text, " {object} ")?;
-    push_deed(text, &e.deed, names)?;
+    push_deed(alloc, text, &e.deed, names)?;
     text.push('\n')?;
     Ok(())
 }

@@ -1,32 +1,34 @@
-// The texts of names, operations and variables.
+// The texts of operations and variables.
 
-ghost use Rattle.std.specs.Prelude.{◌≡◌, ◌++◌, OnOk};
+ghost use Rattle.std.specs.Prelude.{◌≡◌, ◌++◌, OnErr, OnOk};
 ghost use Rattle.std.specs.String.{string_bytes};
-ghost use Rattle.report_texts.specs.Log.{name_text, operation_text, variable_text};
+ghost use Rattle.report_texts.specs.Names.{operation_text, variable_text};
 
+use std::alloc::Global;
 use std::fmt::Write;
-use vdm_kinds::{Name, OpRef, OutOfMemory, VarRef};
+use value_text::name_text;
+use vdm_kinds::{OpRef, OutOfMemory, VarRef};
 use vdm_names::Names;
 
-/// The text of a name; a number past the list has the empty text.
-pub(crate) fn name_text(names: &Names, name: Name) -> &str
-    ensures { result.now ≡ name_text names.now name }
-{
-    names.text(name).unwrap_or("")
-}
-
-/// Appends the text of an operation, as ``C`op/1``.
-pub(crate) fn push_operation(text: &mut String, op: OpRef, names: &Names) -> Result<(), OutOfMemory>
-    ensures { OnOk result (string_bytes text.new ≡ string_bytes text.old ++ operation_text names.now op) }
+/// Appends the text of an operation, as ``C`op/1``. A refusal leaves the string as before.
+pub fn push_operation(
+    alloc: Global,
+    text: &mut String,
+    op: OpRef,
+    names: &Names,
+) -> Result<(), OutOfMemory>
+    ensures ok { OnOk result (string_bytes text.new ≡ string_bytes text.old ++ operation_text names.now op) }
+    ensures err { OnErr result (string_bytes text.new ≡ string_bytes text.old) }
 {
     let class = name_text(names, op.class);
     let name = name_text(names, op.name);
     let arity = op.arity;
-    write!(text, "{class}`{name}/{arity}")?;
+    let operation = format!(in alloc; "{class}`{name}/{arity}")?;
+    text.push_str(operation.as_str())?;
     Ok(())
 }
 
-/// Appends the text of a variable, as ``C`x``.
+/// Appends the text of a variable, as ``C`x``. A refusal may leave a part of it there.
 pub(crate) fn push_variable(
     text: &mut String,
     var: VarRef,

@@ -1,4 +1,6 @@
 pub mod Words
+pub mod Names
+pub mod Quoted
 pub mod Values
 pub mod Lines
 pub mod Log

@@ -12,7 +12,9 @@ use Rattle.vdm_values.specs.declared.slot.Slot.{Slot}
 use Rattle.vdm_values.specs.declared.slot.Slot.TheVariants.{Unset, Held}
 use Rattle.run_journal.specs.declared.thread.Thread.{Thread}
 use Rattle.run_journal.specs.declared.thread.Thread.TheVariants.{Main, Of, Release, Clock}
-use Rattle.report_texts.specs.Values.{value_text}
+use Rattle.report_texts.specs.declared.blocked.Blocked.{Blocked}
+use Rattle.report_texts.specs.Names.{operation_text}
+use Rattle.report_texts.specs.Values.{value_text, spaced_text}
 
 abbrev pub line : List ℕ → List ℕ
 line text = text ++ 10 ∷ []
@@ -45,13 +47,50 @@ refused_line fault =
     line (codes "refused: " ++ decimal (spec_number fault.kind) ++ codes " " ++ spec_name fault.kind
     ++ codes " at " ++ place_text fault.place)
 
--- as `fault: 101 Overflow in main at expr 1:41`
-abbrev pub failed_line : RunFault → Thread → Place → List ℕ
-failed_line fault thread place =
-    line (codes "fault: " ++ decimal (run_number fault) ++ codes " " ++ run_name fault
+-- as `fault: 101 Overflow in main at expr 1:41`; a value that left the thread stands behind the name
+abbrev pub failed_line : List (List ℕ) → RunFault → Slot → Thread → Place → List ℕ
+failed_line names fault exit thread place =
+    line (codes "fault: " ++ decimal (run_number fault) ++ codes " " ++ run_name fault ++ spaced_text names exit
     ++ codes " in " ++ thread_text thread ++ codes " at " ++ place_text place)
 
 -- as `result: 2`, and `result: ()` without a value
-abbrev pub result_line : Slot → List ℕ
-result_line Unset = line (codes "result: ()")
-result_line (Held v) = line (codes "result: " ++ value_text v)
+abbrev pub result_line : List (List ℕ) → Slot → List ℕ
+result_line names Unset = line (codes "result: ()")
+result_line names (Held v) = line (codes "result: " ++ value_text names v)
+
+-- as `checked: classes 3`
+abbrev pub checked_line : ℕ → List ℕ
+checked_line classes = line (codes "checked: classes " ++ decimal classes)
+
+-- as `made: classes 3, entries 20, result 5`
+abbrev pub made_line : ℕ → ℕ → ℕ → List ℕ
+made_line classes entries result =
+    line (codes "made: classes " ++ decimal classes ++ codes ", entries " ++ decimal entries ++ codes ", result " ++ decimal result)
+
+-- as ``main 2 Loop`f/0``
+abbrev pub blocked_text : List (List ℕ) → Blocked → List ℕ
+blocked_text names blocked =
+    thread_text blocked.thread ++ codes " " ++ decimal blocked.object ++ codes " " ++ operation_text names blocked.op
+
+-- threads that wait, with `; ` between each two
+abbrev pub further_blocked : List (List ℕ) → List Blocked → List ℕ
+further_blocked names [] = []
+further_blocked names (blocked ∷ rest) = codes "; " ++ blocked_text names blocked ++ further_blocked names rest
+
+abbrev pub blocked_texts : List (List ℕ) → List Blocked → List ℕ
+blocked_texts names [] = []
+blocked_texts names (blocked ∷ rest) = blocked_text names blocked ++ further_blocked names rest
+
+abbrev pub deadlock_line : List (List ℕ) → List Blocked → List ℕ
+deadlock_line names blocked = line (codes "deadlock: " ++ blocked_texts names blocked)
+
+-- as `ticks over: 35`
+abbrev pub ticks_over_line : ℕ → List ℕ
+ticks_over_line ticks = line (codes "ticks over: " ++ decimal ticks)
+
+abbrev pub tick_fault_line : List ℕ
+tick_fault_line = line (codes "tick fault")
+
+-- as `journal full: 20`
+abbrev pub journal_full_line : ℕ → List ℕ
+journal_full_line entries = line (codes "journal full: " ++ decimal entries)

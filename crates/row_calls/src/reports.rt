@@ -32,6 +32,8 @@ fn say_end(line: &mut Line<'_>, end: &End) {
         End::ReadFault => line.say("read fault"),
         End::WriteFault => line.say("write fault"),
         End::OutOfMemory => line.say("out of memory"),
+        // No call ends so so far.
+        _ => line.say("another end"),
     }
 }
 

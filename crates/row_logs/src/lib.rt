@@ -6,7 +6,6 @@
 
 mod journals;
 mod logs;
-mod numbers;
 
 use row_desk::Desk;
 use row_words::Line;

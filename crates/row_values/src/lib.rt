@@ -1,4 +1,4 @@
-//! Answers of rows on names, faults, lexemes, values and sets.
+//! Answers of rows on names, faults, lexemes, values and sets, and times of calls.
 //!
 //! A request is a word and the words behind it; the head of each module says which words it answers. What the words make
 //! stands on a desk that is lent.
@@ -8,6 +8,7 @@ mod insertion;
 mod kinds;
 mod lexemes;
 mod sets;
+mod text_times;
 mod times;
 mod values;
 

@@ -1,9 +1,10 @@
-// `time set KIND N` and `time lex KIND N`: what was made, and the nanoseconds of the call. Of a set it is how many members
-// it has: the items are N numbers, each one less than the one before (`falling`), or in no order (`scattered`), or one
-// number (`equal`). Of a text of N bytes it is how many lexemes it has, or `refused`: identifiers and blanks
-// (`identifiers`), signs alone (`signs`), or a comment that isn't closed (`comment`). A clock that cannot be read makes it
-// unreadable.
+// `time set KIND N`, `time lex KIND N` and, in `text_times`, `time text KIND N`: what was made, and the nanoseconds of the
+// call. Of a set it is how many members it has: the items are N numbers, each one less than the one before (`falling`), or
+// in no order (`scattered`), or one number (`equal`). Of a text of N bytes it is how many lexemes it has, or `refused`:
+// identifiers and blanks (`identifiers`), signs alone (`signs`), or a comment that isn't closed (`comment`). A clock that
+// cannot be read makes it unreadable.
 
+use crate::text_times::time_text;
 use row_words::Line;
 use std::rt::Clock;
 use std::time::Instant;
@@ -20,6 +21,7 @@ pub fn answer_time<R: Clock>(rt: &R, line: &mut Line<'_>) {
     match line.word() {
         "set" => time_set(rt, line),
         "lex" => time_lex(rt, line),
+        "text" => time_text(rt, line),
         _ => line.refuse(),
     }
 }
@@ -38,7 +40,7 @@ fn time_set<R: Clock>(rt: &R, line: &mut Line<'_>) {
 }
 
 // The nanoseconds since then.
-fn nanoseconds<R: Clock>(rt: &R, line: &mut Line<'_>, began: Option<Instant>) -> u64 {
+pub(crate) fn nanoseconds<R: Clock>(rt: &R, line: &mut Line<'_>, began: Option<Instant>) -> u64 {
     let taken = began.and_then(|it| it.elapsed(rt).ok());
     match taken {
         Some(taken) => u64::try_from(taken.as_nanos()).unwrap_or(u64::MAX),
@@ -49,7 +51,7 @@ fn nanoseconds<R: Clock>(rt: &R, line: &mut Line<'_>, began: Option<Instant>) ->
     }
 }
 
-fn say_time(line: &mut Line<'_>, count: usize, taken: u64) {
+pub(crate) fn say_time(line: &mut Line<'_>, count: usize, taken: u64) {
     line.say_count(count);
     line.say(" ");
     line.say_number(taken);

@@ -2,10 +2,9 @@
 
 ghost use Rattle.std.specs.Prelude.{◌≡◌, ◌++◌, OnErr, OnOk};
 ghost use Rattle.std.specs.String.{string_bytes};
-ghost use Rattle.run_journal.specs.Numbers.{IsNumberSlot};
 ghost use Rattle.report_texts.specs.Values.{slot_text};
 
-use crate::value::push_value;
+use crate::value::{push_value, text};
 use std::alloc::Global;
 use vdm_kinds::OutOfMemory;
 use vdm_names::Names;
@@ -18,23 +17,27 @@ pub fn slot_text(
     names: &Names,
     out: &mut Vec<u8>,
 ) -> Result<(), OutOfMemory>
-    requires { IsNumberSlot slot.now }
-    ensures ok { OnOk result (out.new.items ≡ out.old.items ++ slot_text slot.now) }
+    ensures ok { OnOk result (out.new.items ≡ out.old.items ++ slot_text names.now slot.now) }
     ensures err { OnErr result (out.new.items ≡ out.old.items) }
 {
-    let mut text = String::new(alloc);
-    push_slot(&mut text, slot, names)?;
-    out.extend_from_slice(text.as_bytes())?;
-    Ok(())
+    match slot {
+        Slot::Unset => Ok(out.extend_from_slice(b"?")?),
+        Slot::Held(value) => text(alloc, value, names, out),
+    }
 }
 
-/// Appends the text of a slot to a string. A refusal may leave a part of it there.
-pub fn push_slot(text: &mut String, slot: &Slot, names: &Names) -> Result<(), OutOfMemory>
-    requires { IsNumberSlot slot.now }
-    ensures { OnOk result (string_bytes text.new ≡ string_bytes text.old ++ slot_text slot.now) }
+/// Appends the text of a slot to a string. A refusal leaves the string as before.
+pub fn push_slot(
+    alloc: Global,
+    text: &mut String,
+    slot: &Slot,
+    names: &Names,
+) -> Result<(), OutOfMemory>
+    ensures ok { OnOk result (string_bytes text.new ≡ string_bytes text.old ++ slot_text names.now slot.now) }
+    ensures err { OnErr result (string_bytes text.new ≡ string_bytes text.old) }
 {
     match slot {
-        Slot::Unset => Ok(text.push('?')?),
-        Slot::Held(value) => push_value(text, value, names),
+        Slot::Unset => Ok(text.push_str("?")?),
+        Slot::Held(value) => push_value(alloc, text, value, names),
     }
 }

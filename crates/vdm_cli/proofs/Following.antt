@@ -14,6 +14,7 @@ use Rattle.vdm_meaning.specs.Runs.{IsRun}
 use Rattle.report_texts.specs.Words.{IsNoCommand}
 use Rattle.vdm_report.specs.declared.end.End.{End}
 use Rattle.vdm_report.specs.declared.end.End.TheVariants.{Ended, Refused, Usage, Failed, ReadFault, WriteFault, OutOfMemory}
+use Rattle.vdm_report.specs.declared.end.End.TheVariants.{Checked, Made, Deadlock, TicksOver, TickFault, JournalFull}
 use Rattle.vdm_report.specs.Ends.{finish_in}
 use Rattle.vdm_report.specs.Outside.{Outside}
 use Rattle.vdm_cli.specs.Meant.{read_of, Means}
@@ -56,6 +57,12 @@ finish_meant words log source spec names journal Usage f m = cc f
 finish_meant words log source spec names journal ReadFault f m = cc f
 finish_meant words log source spec names journal WriteFault f m = cc f
 finish_meant words log source spec names journal OutOfMemory f m = cc f
+finish_meant words log source spec names journal (Checked classes) f m = cc f
+finish_meant words log source spec names journal (Made classes made_entries made_result) f m = cc f
+finish_meant words log source spec names journal (Deadlock blocked) f m = cc f
+finish_meant words log source spec names journal (TicksOver ticks) f m = cc f
+finish_meant words log source spec names journal TickFault f m = cc f
+finish_meant words log source spec names journal (JournalFull full) f m = cc f
 
 pub finish_of_journal : (call : Call) → KeepsOutput call → IsSome (finish_in call.report.end) → finish_of call.report.journal ≡ finish_in call.report.end
 finish_of_journal call k f =

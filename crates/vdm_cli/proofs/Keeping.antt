@@ -12,6 +12,7 @@ use Rattle.report_texts.specs.Words.{IsRunCommand, IsNoCommand}
 use Rattle.report_texts.proofs.Commands.{one_command}
 use Rattle.vdm_report.specs.declared.end.End.{End}
 use Rattle.vdm_report.specs.declared.end.End.TheVariants.{Ended, Refused, Usage, Failed, ReadFault, WriteFault, OutOfMemory}
+use Rattle.vdm_report.specs.declared.end.End.TheVariants.{Checked, Made, Deadlock, TicksOver, TickFault, JournalFull}
 use Rattle.vdm_report.specs.Ends.{finish_in}
 use Rattle.vdm_report.specs.Outside.{Outside, IsCalm, IsFaulty}
 use Rattle.vdm_report.specs.Written.{Wrote}
@@ -27,6 +28,12 @@ wrote_stands names journal log meant sink (Refused fault) w = w.1
 wrote_stands names journal log meant sink Usage w = w.1
 wrote_stands names journal log meant sink (Failed fault exit thread place) w = w.1
 wrote_stands names journal log meant sink ReadFault w = w.1
+wrote_stands names journal log meant sink (Checked classes) w = w.1
+wrote_stands names journal log meant sink (Made classes made_entries made_result) w = w.1
+wrote_stands names journal log meant sink (Deadlock blocked) w = w.1
+wrote_stands names journal log meant sink (TicksOver ticks) w = w.1
+wrote_stands names journal log meant sink TickFault w = w.1
+wrote_stands names journal log meant sink (JournalFull full) w = w.1
 
 -- words that are no command mean usage
 means_usage : (words : List (List ℕ)) (log : Bool) (source : Outside) (spec : List ℕ) (names : List (List ℕ)) (journal : List Entry) (meant : End) → IsNoCommand words → Means words log source spec names journal meant → (meant ≡ Usage) × MeansUsage words log source journal
@@ -37,6 +44,12 @@ means_usage words log source spec names journal (Failed fault exit thread place)
 means_usage words log source spec names journal ReadFault none m = absurd (none m.0 log m.1)
 means_usage words log source spec names journal WriteFault none m = absurd (none m.0 log m.1)
 means_usage words log source spec names journal OutOfMemory none m = absurd (none m.0 log m.1)
+means_usage words log source spec names journal (Checked classes) none m = absurd (none m.0 log m.1)
+means_usage words log source spec names journal (Made classes made_entries made_result) none m = absurd (none m.0 log m.1)
+means_usage words log source spec names journal (Deadlock blocked) none m = absurd (none m.0 log m.1)
+means_usage words log source spec names journal (TicksOver ticks) none m = absurd (none m.0 log m.1)
+means_usage words log source spec names journal TickFault none m = absurd (none m.0 log m.1)
+means_usage words log source spec names journal (JournalFull full) none m = absurd (none m.0 log m.1)
 
 -- words that ask for the log, or not, mean a report that does
 means_asks : (words : List (List ℕ)) (log : Bool) (source : Outside) (spec : List ℕ) (names : List (List ℕ)) (journal : List Entry) (meant : End) → (text : List ℕ) (asks : Bool) → IsRunCommand words text asks → Means words log source spec names journal meant → log ≡ asks
@@ -47,6 +60,12 @@ means_asks words log source spec names journal (Failed fault exit thread place) 
 means_asks words log source spec names journal ReadFault text asks c m = (one_command words m.0 text log asks m.1 c).1
 means_asks words log source spec names journal WriteFault text asks c m = (one_command words m.0 text log asks m.1 c).1
 means_asks words log source spec names journal OutOfMemory text asks c m = (one_command words m.0 text log asks m.1 c).1
+means_asks words log source spec names journal (Checked classes) text asks c m = (one_command words m.0 text log asks m.1 c).1
+means_asks words log source spec names journal (Made classes made_entries made_result) text asks c m = (one_command words m.0 text log asks m.1 c).1
+means_asks words log source spec names journal (Deadlock blocked) text asks c m = (one_command words m.0 text log asks m.1 c).1
+means_asks words log source spec names journal (TicksOver ticks) text asks c m = (one_command words m.0 text log asks m.1 c).1
+means_asks words log source spec names journal TickFault text asks c m = (one_command words m.0 text log asks m.1 c).1
+means_asks words log source spec names journal (JournalFull full) text asks c m = (one_command words m.0 text log asks m.1 c).1
 
 pub same_text : (words : List (List ℕ)) (a b : List ℕ) → RunsText words a → RunsText words b → a ≡ b
 same_text words a b p q = (one_command words a b p.0 q.0 p.1 q.1).0
@@ -60,6 +79,12 @@ means_run words log source spec names journal (Failed fault exit thread place) t
 means_run words log source spec names journal ReadFault text p m = subst (λ t. MeansRun source spec t names journal ReadFault) (same_text words m.0 text (log, m.1) p) m.2
 means_run words log source spec names journal WriteFault text p m = subst (λ t. MeansRun source spec t names journal WriteFault) (same_text words m.0 text (log, m.1) p) m.2
 means_run words log source spec names journal OutOfMemory text p m = subst (λ t. MeansRun source spec t names journal OutOfMemory) (same_text words m.0 text (log, m.1) p) m.2
+means_run words log source spec names journal (Checked classes) text p m = subst (λ t. MeansRun source spec t names journal (Checked classes)) (same_text words m.0 text (log, m.1) p) m.2
+means_run words log source spec names journal (Made classes made_entries made_result) text p m = subst (λ t. MeansRun source spec t names journal (Made classes made_entries made_result)) (same_text words m.0 text (log, m.1) p) m.2
+means_run words log source spec names journal (Deadlock blocked) text p m = subst (λ t. MeansRun source spec t names journal (Deadlock blocked)) (same_text words m.0 text (log, m.1) p) m.2
+means_run words log source spec names journal (TicksOver ticks) text p m = subst (λ t. MeansRun source spec t names journal (TicksOver ticks)) (same_text words m.0 text (log, m.1) p) m.2
+means_run words log source spec names journal TickFault text p m = subst (λ t. MeansRun source spec t names journal TickFault) (same_text words m.0 text (log, m.1) p) m.2
+means_run words log source spec names journal (JournalFull full) text p m = subst (λ t. MeansRun source spec t names journal (JournalFull full)) (same_text words m.0 text (log, m.1) p) m.2
 
 -- what is meant behind the bytes that were read is meant behind those that were told
 run_told : (source : Outside) (spec text told : List ℕ) (names : List (List ℕ)) (journal : List Entry) (meant : End) → source.before ≡ Some told → MeansRun source spec text names journal meant → MeansRun source (read_of told) text names journal meant
@@ -70,6 +95,12 @@ run_told source spec text told names journal (Failed fault exit thread place) e 
 run_told source spec text told names journal ReadFault e m = m
 run_told source spec text told names journal WriteFault e m = subst (λ s. MeansRun source s text names journal WriteFault) (m.1 told e).0 m
 run_told source spec text told names journal OutOfMemory e m = (m.0, elim m.1 [ inl none ↦ inl none | inr r ↦ inr (subst (λ s. WasRead source s × Runs s text names journal) (r.0 told e).0 r) ])
+run_told source spec text told names journal (Checked classes) e m = subst (λ s. MeansRun source s text names journal (Checked classes)) (m.1 told e).0 m
+run_told source spec text told names journal (Made classes made_entries made_result) e m = subst (λ s. MeansRun source s text names journal (Made classes made_entries made_result)) (m.1 told e).0 m
+run_told source spec text told names journal (Deadlock blocked) e m = subst (λ s. MeansRun source s text names journal (Deadlock blocked)) (m.1 told e).0 m
+run_told source spec text told names journal (TicksOver ticks) e m = subst (λ s. MeansRun source s text names journal (TicksOver ticks)) (m.1 told e).0 m
+run_told source spec text told names journal TickFault e m = subst (λ s. MeansRun source s text names journal TickFault) (m.1 told e).0 m
+run_told source spec text told names journal (JournalFull full) e m = subst (λ s. MeansRun source s text names journal (JournalFull full)) (m.1 told e).0 m
 
 means_told : (words : List (List ℕ)) (log : Bool) (source : Outside) (spec : List ℕ) (names : List (List ℕ)) (journal : List Entry) (meant : End) (told : List ℕ) → source.before ≡ Some told → Means words log source spec names journal meant → Means words log source (read_of told) names journal meant
 means_told words log source spec names journal (Ended slot) told e m = (m.0, m.1, run_told source spec m.0 told names journal (Ended slot) e m.2)
@@ -79,6 +110,12 @@ means_told words log source spec names journal (Failed fault exit thread place) 
 means_told words log source spec names journal ReadFault told e m = (m.0, m.1, run_told source spec m.0 told names journal ReadFault e m.2)
 means_told words log source spec names journal WriteFault told e m = (m.0, m.1, run_told source spec m.0 told names journal WriteFault e m.2)
 means_told words log source spec names journal OutOfMemory told e m = (m.0, m.1, run_told source spec m.0 told names journal OutOfMemory e m.2)
+means_told words log source spec names journal (Checked classes) told e m = (m.0, m.1, run_told source spec m.0 told names journal (Checked classes) e m.2)
+means_told words log source spec names journal (Made classes made_entries made_result) told e m = (m.0, m.1, run_told source spec m.0 told names journal (Made classes made_entries made_result) e m.2)
+means_told words log source spec names journal (Deadlock blocked) told e m = (m.0, m.1, run_told source spec m.0 told names journal (Deadlock blocked) e m.2)
+means_told words log source spec names journal (TicksOver ticks) told e m = (m.0, m.1, run_told source spec m.0 told names journal (TicksOver ticks) e m.2)
+means_told words log source spec names journal TickFault told e m = (m.0, m.1, run_told source spec m.0 told names journal TickFault e m.2)
+means_told words log source spec names journal (JournalFull full) told e m = (m.0, m.1, run_told source spec m.0 told names journal (JournalFull full) e m.2)
 
 -- a specification is short, so that it was read to its end
 short_is_all : (n : ℕ) (xs : List ℕ) → length xs ≤ n → (take (n + 1) xs ≡ xs) × (drop (n + 1) xs ≡ [])
@@ -110,6 +147,12 @@ ran source spec text names journal (Failed fault exit thread place) f m = (m.1, 
 ran source spec text names journal ReadFault f m = cc f
 ran source spec text names journal WriteFault f m = cc f
 ran source spec text names journal OutOfMemory f m = cc f
+ran source spec text names journal (Checked classes) f m = cc f
+ran source spec text names journal (Made classes made_entries made_result) f m = cc f
+ran source spec text names journal (Deadlock blocked) f m = cc f
+ran source spec text names journal (TicksOver ticks) f m = cc f
+ran source spec text names journal TickFault f m = cc f
+ran source spec text names journal (JournalFull full) f m = cc f
 
 -- an end that want of memory means may stand for any
 stands_again : (end other : End) → StandsFor end OutOfMemory → StandsFor end other
@@ -120,6 +163,12 @@ stands_again (Refused fault) other s = cc s
 stands_again Usage other s = cc s
 stands_again (Failed fault exit thread place) other s = cc s
 stands_again ReadFault other s = cc s
+stands_again (Checked classes) other s = cc s
+stands_again (Made classes made_entries made_result) other s = cc s
+stands_again (Deadlock blocked) other s = cc s
+stands_again (TicksOver ticks) other s = cc s
+stands_again TickFault other s = cc s
+stands_again (JournalFull full) other s = cc s
 
 -- an end of a run is the one that is meant
 pub finished_is : (end meant : End) → IsSome (finish_in end) → StandsFor end meant → end ≡ meant
@@ -130,6 +179,12 @@ finished_is OutOfMemory meant f s = cc f
 finished_is (Refused fault) meant f s = cc f
 finished_is Usage meant f s = cc f
 finished_is ReadFault meant f s = cc f
+finished_is (Checked classes) meant f s = cc f
+finished_is (Made classes made_entries made_result) meant f s = cc f
+finished_is (Deadlock blocked) meant f s = cc f
+finished_is (TicksOver ticks) meant f s = cc f
+finished_is TickFault meant f s = cc f
+finished_is (JournalFull full) meant f s = cc f
 
 -- what stands for an end of a run
 stands_for_finish : (end meant : End) → IsSome (finish_in meant) → StandsFor end meant → IsSome (finish_in end) ⊎ ((end ≡ WriteFault) ⊎ (end ≡ OutOfMemory))
@@ -140,6 +195,12 @@ stands_for_finish (Failed fault exit thread place) meant f s = inl refl
 stands_for_finish (Refused fault) meant f s = inl (subst (λ e. IsSome (finish_in e)) (sym s) f)
 stands_for_finish Usage meant f s = inl (subst (λ e. IsSome (finish_in e)) (sym s) f)
 stands_for_finish ReadFault meant f s = inl (subst (λ e. IsSome (finish_in e)) (sym s) f)
+stands_for_finish (Checked classes) meant f s = inl (subst (λ e. IsSome (finish_in e)) (sym s) f)
+stands_for_finish (Made classes made_entries made_result) meant f s = inl (subst (λ e. IsSome (finish_in e)) (sym s) f)
+stands_for_finish (Deadlock blocked) meant f s = inl (subst (λ e. IsSome (finish_in e)) (sym s) f)
+stands_for_finish (TicksOver ticks) meant f s = inl (subst (λ e. IsSome (finish_in e)) (sym s) f)
+stands_for_finish TickFault meant f s = inl (subst (λ e. IsSome (finish_in e)) (sym s) f)
+stands_for_finish (JournalFull full) meant f s = inl (subst (λ e. IsSome (finish_in e)) (sym s) f)
 
 -- want of memory stands for nothing else
 stands_for_memory : (end : End) → StandsFor end OutOfMemory → IsSome (finish_in end) ⊎ ((end ≡ WriteFault) ⊎ (end ≡ OutOfMemory))
@@ -150,6 +211,12 @@ stands_for_memory (Refused fault) s = cc s
 stands_for_memory Usage s = cc s
 stands_for_memory (Failed fault exit thread place) s = cc s
 stands_for_memory ReadFault s = cc s
+stands_for_memory (Checked classes) s = cc s
+stands_for_memory (Made classes made_entries made_result) s = cc s
+stands_for_memory (Deadlock blocked) s = cc s
+stands_for_memory (TicksOver ticks) s = cc s
+stands_for_memory TickFault s = cc s
+stands_for_memory (JournalFull full) s = cc s
 
 -- the text of a run's end
 pub finished_text : (words : List (List ℕ)) (log : Bool) (source : Outside) (spec : List ℕ) (names : List (List ℕ)) (journal : List Entry) (meant : End) → IsSome (finish_in meant) → Means words log source spec names journal meant → (text : List ℕ) × (RunsText words text × MeansRun source spec text names journal meant)
@@ -160,6 +227,12 @@ finished_text words log source spec names journal (Failed fault exit thread plac
 finished_text words log source spec names journal ReadFault f m = cc f
 finished_text words log source spec names journal WriteFault f m = cc f
 finished_text words log source spec names journal OutOfMemory f m = cc f
+finished_text words log source spec names journal (Checked classes) f m = cc f
+finished_text words log source spec names journal (Made classes made_entries made_result) f m = cc f
+finished_text words log source spec names journal (Deadlock blocked) f m = cc f
+finished_text words log source spec names journal (TicksOver ticks) f m = cc f
+finished_text words log source spec names journal TickFault f m = cc f
+finished_text words log source spec names journal (JournalFull full) f m = cc f
 
 -- where the texts have a refusal, it or want of memory is meant
 refusal_meant : (source : Outside) (spec text : List ℕ) (names : List (List ℕ)) (journal : List Entry) (fault : SpecFault) (meant : End) → (IsFaulty source → ⊥) → IsFirstRefusal spec text fault → MeansRun source spec text names journal meant → (meant ≡ Refused fault) ⊎ (meant ≡ OutOfMemory)
@@ -170,6 +243,12 @@ refusal_meant source spec text names journal fault (Failed g exit thread place) 
 refusal_meant source spec text names journal fault ReadFault calm f m = absurd (calm m.0)
 refusal_meant source spec text names journal fault WriteFault calm f m = absurd m.2
 refusal_meant source spec text names journal fault OutOfMemory calm f m = inr refl
+refusal_meant source spec text names journal fault (Checked classes) calm f m = absurd m.2
+refusal_meant source spec text names journal fault (Made classes made_entries made_result) calm f m = absurd m.2
+refusal_meant source spec text names journal fault (Deadlock blocked) calm f m = absurd m.2
+refusal_meant source spec text names journal fault (TicksOver ticks) calm f m = absurd m.2
+refusal_meant source spec text names journal fault TickFault calm f m = absurd m.2
+refusal_meant source spec text names journal fault (JournalFull full) calm f m = absurd m.2
 
 -- where both texts are accepted, an end of a run or want of memory is meant
 run_meant : (source : Outside) (spec text told : List ℕ) (all names : List (List ℕ)) (journal : List Entry) (tree : SpecTree) (expression : ExprTree) (meant : End) → (IsFaulty source → ⊥) → source.before ≡ Some told → IsAccepted told text all tree expression → MeansRun source spec text names journal meant → IsSome (finish_in meant) ⊎ (meant ≡ OutOfMemory)
@@ -182,6 +261,12 @@ run_meant source spec text told all names journal tree expression (Failed g exit
 run_meant source spec text told all names journal tree expression ReadFault calm e h m = absurd (calm m.0)
 run_meant source spec text told all names journal tree expression WriteFault calm e h m = absurd m.2
 run_meant source spec text told all names journal tree expression OutOfMemory calm e h m = inr refl
+run_meant source spec text told all names journal tree expression (Checked classes) calm e h m = absurd m.2
+run_meant source spec text told all names journal tree expression (Made classes made_entries made_result) calm e h m = absurd m.2
+run_meant source spec text told all names journal tree expression (Deadlock blocked) calm e h m = absurd m.2
+run_meant source spec text told all names journal tree expression (TicksOver ticks) calm e h m = absurd m.2
+run_meant source spec text told all names journal tree expression TickFault calm e h m = absurd m.2
+run_meant source spec text told all names journal tree expression (JournalFull full) calm e h m = absurd m.2
 
 -- a source failed where a read fault is meant, and nowhere else
 source_cause : (words : List (List ℕ)) (log : Bool) (source : Outside) (spec : List ℕ) (names : List (List ℕ)) (journal : List Entry) (meant : End) (end : End) → Means words log source spec names journal meant → StandsFor end meant → IsCalm source ⊎ (IsFaulty source × StandsFor end ReadFault)
@@ -192,6 +277,12 @@ source_cause words log source spec names journal (Failed fault exit thread place
 source_cause words log source spec names journal ReadFault end m s = inr (m.2.0, s)
 source_cause words log source spec names journal WriteFault end m s = inl m.2.0
 source_cause words log source spec names journal OutOfMemory end m s = inl m.2.0
+source_cause words log source spec names journal (Checked classes) end m s = inl m.2.0
+source_cause words log source spec names journal (Made classes made_entries made_result) end m s = inl m.2.0
+source_cause words log source spec names journal (Deadlock blocked) end m s = inl m.2.0
+source_cause words log source spec names journal (TicksOver ticks) end m s = inl m.2.0
+source_cause words log source spec names journal TickFault end m s = inl m.2.0
+source_cause words log source spec names journal (JournalFull full) end m s = inl m.2.0
 
 -- a sink failed where the end is a write fault, and nowhere else
 sink_cause : (names : List (List ℕ)) (journal : List Entry) (log : Bool) (meant : End) (sink : Outside) (end : End) → Wrote names journal log meant sink end → IsCalm sink ⊎ (IsFaulty sink × (end ≡ WriteFault))
@@ -202,6 +293,12 @@ sink_cause names journal log meant sink (Failed fault exit thread place) w = inl
 sink_cause names journal log meant sink ReadFault w = inl w.0
 sink_cause names journal log meant sink WriteFault w = inr (w.0, refl)
 sink_cause names journal log meant sink OutOfMemory w = inl w.0
+sink_cause names journal log meant sink (Checked classes) w = inl w.0
+sink_cause names journal log meant sink (Made classes made_entries made_result) w = inl w.0
+sink_cause names journal log meant sink (Deadlock blocked) w = inl w.0
+sink_cause names journal log meant sink (TicksOver ticks) w = inl w.0
+sink_cause names journal log meant sink TickFault w = inl w.0
+sink_cause names journal log meant sink (JournalFull full) w = inl w.0
 
 -- a journal of what is meant: none, or a run behind the bytes that were read
 entries_of : (call : Call) (spec : List ℕ) (names : List (List ℕ)) (meant : End) → Means call.words call.report.log call.source spec names call.report.journal meant → (call.report.journal ≡ []) ⊎ (WasRead call.source spec × RunsOf call spec)
@@ -212,6 +309,12 @@ entries_of call spec names (Failed fault exit thread place) m = inr (m.2.1, reco
 entries_of call spec names ReadFault m = inl m.2.1
 entries_of call spec names WriteFault m = absurd m.2.2
 entries_of call spec names OutOfMemory m = elim m.2.1 [ inl none ↦ inl none | inr r ↦ inr (r.0, record { text = m.0; names = names; command = (call.report.log, m.1); runs = r.1 }) ]
+entries_of call spec names (Checked classes) m = absurd m.2.2
+entries_of call spec names (Made classes made_entries made_result) m = absurd m.2.2
+entries_of call spec names (Deadlock blocked) m = absurd m.2.2
+entries_of call spec names (TicksOver ticks) m = absurd m.2.2
+entries_of call spec names TickFault m = absurd m.2.2
+entries_of call spec names (JournalFull full) m = absurd m.2.2
 
 -- all clauses, from what is meant behind some bytes that were read, and what was written of it
 module _ (call : Call) (spec : List ℕ) (names : List (List ℕ)) (meant : End)

@@ -8,6 +8,7 @@ use Rattle.vdm_outside.specs.Reading.{TakesAtMost}
 use Rattle.report_texts.specs.Words.{IsRunCommand, IsNoCommand}
 use Rattle.vdm_report.specs.declared.end.End.{End}
 use Rattle.vdm_report.specs.declared.end.End.TheVariants.{Ended, Refused, Usage, Failed, ReadFault, WriteFault, OutOfMemory}
+use Rattle.vdm_report.specs.declared.end.End.TheVariants.{Checked, Made, Deadlock, TicksOver, TickFault, JournalFull}
 use Rattle.vdm_report.specs.declared.report.Report.{Report}
 use Rattle.vdm_report.specs.Outside.{Outside, IsCalm, IsUntouched}
 use Rattle.vdm_report.specs.Written.{Wrote}
@@ -71,6 +72,12 @@ means_command words log source spec text names journal (Failed fault exit thread
 means_command words log source spec text names journal ReadFault c m = (text, c, m)
 means_command words log source spec text names journal WriteFault c m = (text, c, m)
 means_command words log source spec text names journal OutOfMemory c m = (text, c, m)
+means_command words log source spec text names journal (Checked classes) c m = (text, c, m)
+means_command words log source spec text names journal (Made classes made_entries made_result) c m = (text, c, m)
+means_command words log source spec text names journal (Deadlock blocked) c m = (text, c, m)
+means_command words log source spec text names journal (TicksOver ticks) c m = (text, c, m)
+means_command words log source spec text names journal TickFault c m = (text, c, m)
+means_command words log source spec text names journal (JournalFull full) c m = (text, c, m)
 
 pub keeps_command : (call : Call) (text : List ℕ) (asks : Bool) → IsRunCommand call.words text asks → call.report.log ≡ asks → KeepsStatus call → KeepsReading call → RunsCommand text call.source call.sink call.report → Keeps call
 keeps_command call text asks command log status reading r =

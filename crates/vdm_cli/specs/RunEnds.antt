@@ -1,6 +1,5 @@
 -- How the run of a specification and an expression ends.
 use Rattle.std.specs.Prelude.{◌≡◌, List}
-use Rattle.std.specs.List.{AllByRecursion as Each}
 use Rattle.abstract_syntax.specs.Classes.{SpecTree}
 use Rattle.abstract_syntax.specs.Expressions.{ExprTree}
 use Rattle.run_journal.specs.declared.entry.Entry.{Entry}
@@ -8,7 +7,6 @@ use Rattle.vdm_meaning.specs.Main.{step_limit}
 use Rattle.vdm_legal.specs.Order.{IsInOrder}
 use Rattle.vdm_legal.specs.Finishes.{finish_of}
 use Rattle.vdm_meaning.specs.Runs.{IsRun}
-use Rattle.report_texts.specs.Log.{HasLogLine}
 use Rattle.vdm_report.specs.declared.end.End.{End}
 use Rattle.vdm_report.specs.declared.end.End.TheVariants.{Ended, Failed, OutOfMemory}
 use Rattle.vdm_report.specs.Ends.{finish_in, HasReportLine}
@@ -20,11 +18,9 @@ EndsRun journal (Failed fault exit thread place) = finish_of journal ≡ finish_
 EndsRun journal OutOfMemory = Unit {0}
 EndsRun journal _ = ⊥
 
--- a run of a specification and an expression, in the order of one lane: to its end, or as far as memory allowed; each of its
--- entries has a line
+-- a run of a specification and an expression, in the order of one lane: to its end, or as far as memory allowed
 pub record RunsTo (spec : SpecTree) (tree : ExprTree) (journal : List Entry) (end : End) : Type 0 where
   pub run : IsRun spec tree step_limit journal
   pub order : IsInOrder spec journal
   pub ends : EndsRun journal end
-  pub lines : Each HasLogLine journal
   pub line : HasReportLine end

@@ -1,14 +1,12 @@
 // The report that a command means, before it is written.
 
 ghost use Rattle.std.specs.Prelude.{◌≡◌, ℕ, List, IfOk, Err};
-ghost use Rattle.std.specs.List.{AllByRecursion as Each};
 ghost use Rattle.std.specs.String.{string_bytes};
 ghost use Rattle.vdm_kinds.specs.NameList.{built_in_names};
 ghost use Rattle.vdm_kinds.specs.declared.spec_fault.SpecFault.{SpecFault};
 ghost use Rattle.vdm_grammar.specs.Texts.{IsAccepted, IsFirstRefusal};
 ghost use Rattle.vdm_tree.specs.ClassView.{spec_view};
 ghost use Rattle.vdm_tree.specs.View.{view_of};
-ghost use Rattle.report_texts.specs.Log.{HasLogLine};
 ghost use Rattle.vdm_report.specs.Ends.{status_of, HasReportLine};
 ghost use Rattle.vdm_report.specs.Outside.{around};
 ghost use Rattle.vdm_cli.specs.Meant.{MeansRun, MeansTexts, ReadsSpec};
@@ -36,7 +34,6 @@ pub fn meant_by<S: Source>(
         (string_bytes command.entry.text.now) names.new result.journal result.end }
     ensures status { result.status ≡ status_of result.end }
     ensures log { result.log ≡ command.entry.log }
-    ensures lines { Each HasLogLine result.journal }
     ensures line { HasReportLine result.end }
     ensures reading { ReadsSpec S.left S.reads source.old source.new }
 {
@@ -53,7 +50,6 @@ fn meant_of_texts(alloc: Global, spec: &[u8], text: &[u8], log: bool, names: &mu
     ensures means { MeansTexts spec.now text.now names.new result.journal result.end }
     ensures status { result.status ≡ status_of result.end }
     ensures log { result.log ≡ log }
-    ensures lines { Each HasLogLine result.journal }
     ensures line { HasReportLine result.end }
 {
     match accepted(alloc, spec, text, names) {

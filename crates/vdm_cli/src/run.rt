@@ -1,11 +1,9 @@
 // The run of a specification and an expression, and how it ends.
 
 ghost use Rattle.std.specs.Prelude.{◌≡◌, ◌≤◌, List, length, Some, IfSome};
-ghost use Rattle.std.specs.List.{AllByRecursion as Each};
 ghost use Rattle.vdm_grammar.specs.Grammar.{IsExpression};
 ghost use Rattle.run_journal.specs.declared.entry.Entry.{Entry};
 ghost use Rattle.vdm_legal.specs.Finishes.{finish_of};
-ghost use Rattle.report_texts.specs.Log.{HasLogLine};
 ghost use Rattle.vdm_tree.specs.ClassView.{spec_view};
 ghost use Rattle.vdm_tree.specs.View.{view_of};
 ghost use Rattle.vdm_report.specs.Ends.{status_of, HasReportLine};
@@ -36,10 +34,7 @@ pub fn run(alloc: Global, spec: &Spec, tree: &Expr, log: bool) -> Report
 /// The end of a run; where it has no finish, memory was wanting.
 fn end_after(finish: Option<Finish>) -> End
     ensures ends { (journal : List Entry) → IfSome finish (λ f. finish_of journal ≡ Some (finishes f)) → EndsRun journal result }
-    ensures line { (journal : List Entry)
-        → Each HasLogLine journal
-        → IfSome finish (λ f. finish_of journal ≡ Some (finishes f))
-        → HasReportLine result }
+    ensures line { HasReportLine result }
 {
     match finish {
         Some(finish) => end_of(finish),
@@ -50,10 +45,7 @@ fn end_after(finish: Option<Finish>) -> End
 /// The end of a run that finishes so.
 fn end_of(finish: Finish) -> End
     ensures ends { (journal : List Entry) → finish_of journal ≡ Some (finishes finish) → EndsRun journal result }
-    ensures line { (journal : List Entry)
-        → Each HasLogLine journal
-        → finish_of journal ≡ Some (finishes finish)
-        → HasReportLine result }
+    ensures line { HasReportLine result }
 {
     match finish {
         Finish::Ended(slot) => End::Ended(slot),

@@ -11,7 +11,7 @@ use Rattle.vdm_report.specs.Outside.{Outside, IsCalm, IsFaulty, IsUntouched}
 
 -- the output of a journal over these names, with the log or without, and of the end that is meant
 abbrev pub IsOutput : List (List ℕ) → List Entry → Bool → End → List ℕ → Type 0
-IsOutput names journal log meant bytes = (last : List ℕ) × IsLastLine meant last × (bytes ≡ output names journal log last)
+IsOutput names journal log meant bytes = (last : List ℕ) × IsLastLine names meant last × (bytes ≡ output names journal log last)
 
 -- What a call wrote of the output, and how it ends then: all of it, a part of it under a write fault, or nothing where
 -- memory was wanting.

@@ -1,9 +1,7 @@
 // A report, written.
 
 ghost use Rattle.std.specs.Prelude.{◌≡◌, None, [], IfOk, IfErr, OnOk, option_copied};
-ghost use Rattle.std.specs.List.{AllByRecursion as Each};
-ghost use Rattle.report_texts.specs.Log.{HasLogLine};
-ghost use Rattle.vdm_report.specs.Ends.{status_of, HasReportLine};
+ghost use Rattle.vdm_report.specs.Ends.{status_of, HasReportLine, NeedsNoNames};
 ghost use Rattle.vdm_report.specs.Outside.{around};
 ghost use Rattle.vdm_report.specs.Named.{names_in};
 ghost use Rattle.vdm_report.specs.Halted.{end_of_halt};
@@ -24,7 +22,7 @@ pub fn written<K: Sink>(alloc: Global, meant: Report, names: Option<&Names>, sin
     requires status { meant.status ≡ status_of meant.end }
     requires line { HasReportLine meant.end }
     requires named { names ≡ None → meant.journal ≡ [] }
-    requires lines { Each HasLogLine meant.journal }
+    requires nameless { names ≡ None → NeedsNoNames meant.end }
     ensures status { result.status ≡ status_of result.end }
     ensures journal { result.journal ≡ meant.journal }
     ensures log { result.log ≡ meant.log }
@@ -52,7 +50,7 @@ fn sent<K: Sink>(
 ) -> Result<(), Halt<Failed>>
     requires line { HasReportLine report.now.end }
     requires named { names ≡ None → report.now.journal ≡ [] }
-    requires lines { Each HasLogLine report.now.journal }
+    requires nameless { names ≡ None → NeedsNoNames report.now.end }
     ensures sent { OnOk result (Wrote (names_in (option_copied names.entry)) report.now.journal report.now.log report.now.end
         (around K.held K.faults sink.old sink.new) report.now.end) }
     ensures halted { IfErr result (λ halt. Wrote (names_in (option_copied names.entry)) report.now.journal report.now.log
@@ -62,7 +60,7 @@ fn sent<K: Sink>(
     write_whole(sink, &text).map_err(Halt::Of)
 }
 
-/// The text of a report: the log where it is asked for, and the last line.
+/// The text of a report: what was printed, the log where it is asked for, and the last line.
 ///
 /// # Errors
 ///
@@ -70,11 +68,11 @@ fn sent<K: Sink>(
 fn text_of(alloc: Global, report: &Report, names: Option<&Names>) -> Result<Vec<u8>, OutOfMemory>
     requires line { HasReportLine report.now.end }
     requires named { names ≡ None → report.now.journal ≡ [] }
-    requires lines { Each HasLogLine report.now.journal }
+    requires nameless { names ≡ None → NeedsNoNames report.now.end }
     ensures { IfOk result (λ text. IsOutput (names_in (option_copied names.entry)) report.now.journal report.now.log
         report.now.end text.items) }
 {
-    let last = last_line(alloc, &report.end)?;
+    let last = last_line(alloc, &report.end, names)?;
     match names {
         Some(names) => report_text(alloc, &report.journal, report.log, last.as_bytes(), names),
         None => Ok(last.into_bytes()),

@@ -5,6 +5,3 @@ use Rattle.vdm_cli.proofs.run.end_after.Goals as goal
 
 pub returns-in-Some-clause-ends : goal.returns-in-Some-clause-ends
 returns-in-Some-clause-ends c = λ journal finished. c.end_of.ensures.ends journal (subst (λ o. IfSome o (λ f. finish_of journal ≡ Some (finishes f))) c.in-Some.is finished)
-
-pub returns-in-Some-clause-line : goal.returns-in-Some-clause-line
-returns-in-Some-clause-line c = λ journal lines finished. c.end_of.ensures.line journal lines (subst (λ o. IfSome o (λ f. finish_of journal ≡ Some (finishes f))) c.in-Some.is finished)

@@ -1,0 +1,5 @@
+use Rattle.value_text.proofs.Coming.{two_more}
+use Rattle.value_text.proofs.pieces.put_between.Goals as goal
+
+pub returns-clause-pieces : goal.returns-clause-pieces
+returns-clause-pieces c = λ names. two_more names _ _ _ _ _ c.in_ok-push.ensures.items c.in_ok-push-2.ensures.items
