@@ -4,8 +4,8 @@ use Rattle.vdm_kinds.specs.declared.place.Place.{Place}
 use Rattle.vdm_kinds.specs.declared.run_fault.RunFault.TheVariants.{TypeFault, Undefined}
 use Rattle.abstract_syntax.specs.Classes.{SpecTree, ClassTree}
 use Rattle.abstract_syntax.specs.Expressions.{ExprTree, ExprTrees, named, select, no_exprs, one_expr}
-use Rattle.vdm_tree.specs.View.{view_of, views_of, expr_trees}
-use Rattle.vdm_tree.specs.declared.expr.Expr.{Expr}
+use Rattle.expr_tree.specs.View.{view_of, views_of, expr_trees}
+use Rattle.expr_tree.specs.declared.expr.Expr.{Expr}
 use Rattle.plans.specs.Plans.{fail}
 use Rattle.vdm_meaning.specs.Faults.{fault_at}
 use Rattle.vdm_meaning.specs.Tasks.{Env, inside}

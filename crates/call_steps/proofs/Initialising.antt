@@ -7,7 +7,7 @@ use Rattle.vdm_kinds.specs.declared.place.Place.{Place}
 use Rattle.vdm_values.specs.declared.slot.Slot.{Slot}
 use Rattle.vdm_values.specs.declared.slot.Slot.TheVariants.{Unset}
 use Rattle.abstract_syntax.specs.Classes.{ClassTree, VariableTree}
-use Rattle.vdm_tree.specs.View.{view_of, boxed_view}
+use Rattle.expr_tree.specs.View.{view_of, boxed_view}
 use Rattle.vdm_tree.specs.ClassView.{variable_view}
 use Rattle.vdm_tree.specs.declared.class_def.VarDef.{VarDef}
 use Rattle.plans.specs.Plans.{part}

@@ -4,7 +4,7 @@ ghost use Rattle.std.specs.Prelude.{◌≡◌, ◌≤◌, IfOk, option_map};
 ghost use Rattle.std.specs.Borrow.{Bor};
 ghost use Rattle.abstract_syntax.specs.Classes.{SpecTree};
 ghost use Rattle.vdm_meaning.specs.Objects.{new_of, initialise, with_slot, make_object, created};
-ghost use Rattle.vdm_tree.specs.View.{expr_trees, views_of};
+ghost use Rattle.expr_tree.specs.View.{expr_trees, views_of};
 ghost use Rattle.class_table.specs.declared.members.Members.{Members};
 ghost use Rattle.class_table.specs.Tables.{class_of, variables_from};
 ghost use Rattle.step_data.specs.Steps.{code_of, height};

@@ -1,8 +1,8 @@
 -- What is computed of the views of a list is computed of the list.
 use Rattle.std.proofs.Common.{◌≡◌, ℕ, ◌+◌, ◌≤◌, max, List, [], ◌∷◌, map, length, refl, ap, arith}
 use Rattle.abstract_syntax.specs.Depth.{greatest, type_depth, parameters_depth}
-use Rattle.vdm_tree.specs.declared.type_expr.TypeExpr.{TypeExpr}
-use Rattle.vdm_tree.specs.Literals.{type_views}
+use Rattle.type_tree.specs.declared.type_expr.TypeExpr.{TypeExpr}
+use Rattle.type_tree.specs.TypeView.{type_views}
 
 pub greatest_of : {A B : Type 0} (f : B → ℕ) (g : A → B) (xs : List A) → greatest (map f (map g xs)) ≡ greatest (map (λ x. f (g x)) xs)
 greatest_of f g [] = refl

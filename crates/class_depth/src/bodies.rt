@@ -2,8 +2,8 @@
 
 ghost use Rattle.std.specs.Prelude.{◌≡◌, ◌+◌, IfOk, map};
 ghost use Rattle.abstract_syntax.specs.Depth.{greatest, type_depth, pattern_depth, expr_depth, stmt_depth, parameters_depth, body_depth, function_depth, operation_depth};
-ghost use Rattle.vdm_tree.specs.Literals.{type_view, type_views};
-ghost use Rattle.vdm_tree.specs.View.{boxed_view, pattern_view, pattern_views};
+ghost use Rattle.type_tree.specs.TypeView.{type_view, type_views};
+ghost use Rattle.expr_tree.specs.View.{boxed_view, pattern_view, pattern_views};
 ghost use Rattle.vdm_tree.specs.StmtView.{boxed_stmt};
 ghost use Rattle.vdm_tree.specs.ClassView.{body_view, function_view, operation_view};
 

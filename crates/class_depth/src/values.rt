@@ -2,9 +2,10 @@
 
 ghost use Rattle.std.specs.Prelude.{◌≡◌, IfOk, map, option_map};
 ghost use Rattle.abstract_syntax.specs.Depth.{type_depth, declared_depth, value_depth, invariant_depth, type_body_depth, type_def_depth, value_def_depth, variable_depth, variable_item_depth};
-ghost use Rattle.vdm_tree.specs.Literals.{type_view};
-ghost use Rattle.vdm_tree.specs.View.{boxed_view};
-ghost use Rattle.vdm_tree.specs.ClassView.{field_view, invariant_view, type_body_view, type_def_view, value_def_view, variable_view, variable_item_view};
+ghost use Rattle.type_tree.specs.TypeView.{type_view};
+ghost use Rattle.expr_tree.specs.View.{boxed_view};
+ghost use Rattle.expr_tree.specs.TypeDefView.{field_view, invariant_view, type_body_view, type_def_view};
+ghost use Rattle.vdm_tree.specs.ClassView.{value_def_view, variable_view, variable_item_view};
 
 use crate::deep::{Deep, deepest};
 use std::alloc::Global;

@@ -4,7 +4,7 @@ ghost use Rattle.std.specs.Prelude.{◌≡◌, ◌≤◌, option_map};
 ghost use Rattle.std.specs.Borrow.{Bor};
 ghost use Rattle.abstract_syntax.specs.Classes.{SpecTree};
 ghost use Rattle.vdm_meaning.specs.Expressions.{right_operand, operator_on, read_found, read_of, read_value};
-ghost use Rattle.vdm_tree.specs.View.{view_of};
+ghost use Rattle.expr_tree.specs.View.{view_of};
 ghost use Rattle.vdm_tree.specs.ClassView.{variable_view};
 ghost use Rattle.vdm_tree.specs.declared.class_def.VarDef.{VarDef};
 ghost use Rattle.class_table.specs.Tables.{class_of};

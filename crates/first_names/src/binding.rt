@@ -4,7 +4,7 @@ ghost use Rattle.std.specs.Prelude.{◌≡◌, map, flat_map, IfOk};
 ghost use Rattle.std.specs.List.{list_all};
 ghost use Rattle.vdm_grammar.specs.Binding.{is_bound, is_bound_class, is_body, is_body_of, is_returning, is_plain, are_plain, end_in_return, is_return, is_value, is_target, is_called, is_over};
 ghost use Rattle.abstract_syntax.specs.Classes.{operations_in, written};
-ghost use Rattle.vdm_tree.specs.View.{view_of};
+ghost use Rattle.expr_tree.specs.View.{view_of};
 ghost use Rattle.vdm_tree.specs.StmtView.{stmt_view, stmt_views, stmt_trees, target_view};
 ghost use Rattle.vdm_tree.specs.ClassView.{spec_view, class_view, block_view, operation_view};
 ghost use Rattle.first_names.specs.Scopes.{scope_view, differ};

@@ -6,7 +6,7 @@ ghost use Rattle.vdm_kinds.specs.declared.place.Place.{Place};
 ghost use Rattle.abstract_syntax.specs.Expressions.{ExprTrees, apply};
 ghost use Rattle.abstract_syntax.specs.Classes.{operations_in, operation_named};
 ghost use Rattle.vdm_grammar.specs.Binding.{is_over, is_bound_in, has_operation};
-ghost use Rattle.vdm_tree.specs.View.{view_of};
+ghost use Rattle.expr_tree.specs.View.{view_of};
 ghost use Rattle.vdm_tree.specs.ClassView.{spec_view, class_view, block_view, operation_view};
 ghost use Rattle.first_names.specs.Scopes.{is_operation};
 

@@ -3,7 +3,7 @@
 ghost use Rattle.std.specs.Prelude.{◌≡◌, ◌+◌, ◌^◌, ◌<◌, length, IfOk};
 ghost use Rattle.vdm_kinds.specs.declared.spec_fault.SpecFault.{SpecFault};
 ghost use Rattle.vdm_grammar.specs.Texts.{HasTree, HasNoTree, expr_limit, syntax_fault};
-ghost use Rattle.vdm_tree.specs.View.{view_of};
+ghost use Rattle.expr_tree.specs.View.{view_of};
 ghost use Rattle.vdm_tree.specs.ClassView.{spec_view};
 ghost use Rattle.first_tokens.specs.Lexed.{KeepsNames};
 ghost use Rattle.vdm_grammar.specs.declared.no_tree.NoTree.{NoTree};

@@ -3,7 +3,7 @@
 ghost use Rattle.std.specs.Prelude.{◌≡◌};
 ghost use Rattle.vdm_grammar.specs.Marks.{is_mark};
 ghost use Rattle.vdm_grammar.specs.Reading.{mark_in, name_in, name_again, literal_in, brackets_in};
-ghost use Rattle.vdm_tree.specs.View.{view_of};
+ghost use Rattle.expr_tree.specs.View.{view_of};
 ghost use Rattle.first_statements.specs.Views.{Finds, name_view, place_view};
 
 use vdm_grammar::{Mark, Token, TokenKind};

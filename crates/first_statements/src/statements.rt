@@ -4,7 +4,7 @@ ghost use Rattle.std.specs.Prelude.{◌≡◌, length, [], Some, IfOk};
 ghost use Rattle.abstract_syntax.specs.Expressions.{named, apply, no_exprs};
 ghost use Rattle.abstract_syntax.specs.Statements.{variable, assign, call, returns};
 ghost use Rattle.vdm_grammar.specs.Reading.{stmt_in, stmts_on, block_closed, named_stmt, called};
-ghost use Rattle.vdm_tree.specs.View.{view_of};
+ghost use Rattle.expr_tree.specs.View.{view_of};
 ghost use Rattle.vdm_tree.specs.StmtView.{stmt_view, target_view};
 ghost use Rattle.first_statements.specs.Views.{Reads, name_view, statements_view};
 

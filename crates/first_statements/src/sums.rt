@@ -4,7 +4,7 @@ ghost use Rattle.std.specs.Prelude.{◌≡◌, IfOk};
 ghost use Rattle.vdm_kinds.specs.declared.sign.Sign.TheVariants.{Plus};
 ghost use Rattle.abstract_syntax.specs.Expressions.{joined};
 ghost use Rattle.vdm_grammar.specs.Reading.{term_in, sum_on, sum_in};
-ghost use Rattle.vdm_tree.specs.View.{view_of};
+ghost use Rattle.expr_tree.specs.View.{view_of};
 ghost use Rattle.first_statements.specs.Views.{Finds, Reads};
 
 use crate::single::mark;

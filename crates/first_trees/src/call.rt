@@ -2,7 +2,7 @@
 
 ghost use Rattle.std.specs.Prelude.{◌≡◌, Some, IfOk};
 ghost use Rattle.vdm_grammar.specs.Reading.{new_in, call_on, expr_in, expr_of};
-ghost use Rattle.vdm_tree.specs.View.{view_of};
+ghost use Rattle.expr_tree.specs.View.{view_of};
 ghost use Rattle.first_statements.specs.Views.{Finds, Reads, Refuses};
 
 use first_statements::{DEPTH_LIMIT, brackets, mark, name, sum};

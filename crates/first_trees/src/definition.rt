@@ -3,7 +3,7 @@
 ghost use Rattle.std.specs.Prelude.{length, [], option_map};
 ghost use Rattle.vdm_grammar.specs.Reading.{type_in, item_in, items_on, result_in, signature_in, definition_in, operation_in, operations_on};
 ghost use Rattle.vdm_tree.specs.StmtView.{stmt_view};
-ghost use Rattle.vdm_tree.specs.Literals.{type_view};
+ghost use Rattle.type_tree.specs.TypeView.{type_view};
 ghost use Rattle.vdm_tree.specs.ClassView.{variable_item_view, operation_view};
 ghost use Rattle.first_statements.specs.Views.{Finds, Reads};
 ghost use Rattle.first_trees.specs.ClassViews.{variables_view, operations_view};

@@ -4,7 +4,7 @@ ghost use Rattle.std.specs.Prelude.{◌≡◌, ◌≤◌};
 ghost use Rattle.abstract_syntax.specs.Classes.{SpecTree};
 ghost use Rattle.plans.specs.Plans.{part};
 ghost use Rattle.vdm_meaning.specs.Main.{whole_expression, end_with};
-ghost use Rattle.vdm_tree.specs.View.{view_of};
+ghost use Rattle.expr_tree.specs.View.{view_of};
 ghost use Rattle.step_data.specs.Parts.{task_of};
 ghost use Rattle.step_data.specs.Steps.{code_of, after_io, height};
 

@@ -4,7 +4,7 @@ ghost use Rattle.std.specs.Prelude.{◌≡◌, IfOk};
 ghost use Rattle.vdm_meaning.specs.Expressions.{expr_plan, joined_of};
 ghost use Rattle.vdm_kinds.specs.Signs.{sign_operator};
 ghost use Rattle.abstract_syntax.specs.Classes.{SpecTree};
-ghost use Rattle.vdm_tree.specs.View.{view_of};
+ghost use Rattle.expr_tree.specs.View.{view_of};
 ghost use Rattle.class_table.specs.Tables.{table_spec};
 ghost use Rattle.step_data.specs.Parts.{env_of};
 ghost use Rattle.step_data.specs.Steps.{code_of};

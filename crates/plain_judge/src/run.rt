@@ -9,7 +9,7 @@ ghost use Rattle.class_table.specs.Tables.{table_spec};
 ghost use Rattle.vdm_meaning.specs.Main.{main_code};
 ghost use Rattle.vdm_meaning.specs.Runs.{IsRun};
 ghost use Rattle.vdm_tree.specs.ClassView.{spec_view};
-ghost use Rattle.vdm_tree.specs.View.{view_of};
+ghost use Rattle.expr_tree.specs.View.{view_of};
 
 use crate::asked::is_asked_for;
 use crate::given::answer_of;

@@ -7,7 +7,7 @@ ghost use Rattle.stmt_exec.specs.Standing.{rest};
 ghost use Rattle.class_table.specs.Tables.{table_spec};
 ghost use Rattle.vdm_meaning.specs.Main.{main_code};
 ghost use Rattle.vdm_tree.specs.ClassView.{spec_view};
-ghost use Rattle.vdm_tree.specs.View.{view_of};
+ghost use Rattle.expr_tree.specs.View.{view_of};
 
 use class_table::Table;
 use run_journal::{Answer, AnswerList, Question};

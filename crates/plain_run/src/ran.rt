@@ -10,7 +10,7 @@ ghost use Rattle.vdm_legal.specs.Order.{IsInOrder};
 ghost use Rattle.vdm_legal.specs.Finishes.{finish_of};
 ghost use Rattle.vdm_meaning.specs.Runs.{IsRun};
 ghost use Rattle.vdm_tree.specs.ClassView.{spec_view};
-ghost use Rattle.vdm_tree.specs.View.{view_of};
+ghost use Rattle.expr_tree.specs.View.{view_of};
 ghost use Rattle.plain_run.specs.Turns.{GoesOn};
 
 use crate::turn::turn;

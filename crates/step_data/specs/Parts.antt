@@ -2,7 +2,7 @@
 use Rattle.std.specs.Prelude.{List}
 use Rattle.abstract_syntax.specs.Classes.{OperationTree, ClassTree}
 use Rattle.abstract_syntax.specs.Statements.{StmtTrees}
-use Rattle.vdm_tree.specs.View.{view_of}
+use Rattle.expr_tree.specs.View.{view_of}
 use Rattle.vdm_tree.specs.StmtView.{stmt_view, stmt_trees, stmt_views}
 use Rattle.vdm_tree.specs.ClassView.{operation_view}
 use Rattle.vdm_tree.specs.declared.stmt.Stmt.{Stmt}

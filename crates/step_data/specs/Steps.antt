@@ -5,7 +5,7 @@ use Rattle.vdm_kinds.specs.declared.place.Place.{Place}
 use Rattle.abstract_syntax.specs.Values.{ValueTree}
 use Rattle.abstract_syntax.specs.Classes.{SpecTree, class_names}
 use Rattle.abstract_syntax.specs.Expressions.{ExprTree}
-use Rattle.vdm_tree.specs.View.{view_of}
+use Rattle.expr_tree.specs.View.{view_of}
 use Rattle.vdm_tree.specs.StmtView.{target_view}
 use Rattle.run_journal.specs.declared.answer.Answer.{Answer}
 use Rattle.run_journal.specs.declared.question.Question.{Question}

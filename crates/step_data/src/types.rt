@@ -5,7 +5,7 @@ ghost use Rattle.vdm_kinds.specs.declared.basic_type.BasicType.TheVariants.{Nat}
 ghost use Rattle.vdm_kinds.specs.declared.place.Place.{Place};
 ghost use Rattle.abstract_syntax.specs.Types.{basic_type};
 ghost use Rattle.vdm_meaning.specs.Types.{fits, slot_fits, all_fit};
-ghost use Rattle.vdm_tree.specs.Literals.{type_view};
+ghost use Rattle.type_tree.specs.TypeView.{type_view};
 ghost use Rattle.class_table.specs.Tables.{variables_at};
 
 use vdm_kinds::BasicType;

@@ -21,8 +21,8 @@ use Rattle.abstract_syntax.specs.Depth.{
   stmt_cases_depth,
   handlers_depth,
 }
-use Rattle.vdm_tree.specs.Literals.{type_view}
-use Rattle.vdm_tree.specs.View.{view_of, boxed_view, defined_trees, defined_view, bind_view, pattern_view, pattern_views, pattern_trees}
+use Rattle.type_tree.specs.TypeView.{type_view}
+use Rattle.expr_tree.specs.View.{view_of, boxed_view, defined_trees, defined_view, bind_view, pattern_view, pattern_views, pattern_trees}
 use Rattle.vdm_tree.specs.StmtView.{
   target_step_view,
   target_view,

@@ -2,7 +2,7 @@
 
 ghost use Rattle.std.specs.Prelude.{◌≡◌, map, option_map};
 ghost use Rattle.abstract_syntax.specs.Depth.{value_depth, maybe_stmt_depth, stmt_branches_depth, stmt_cases_depth, handlers_depth};
-ghost use Rattle.vdm_tree.specs.View.{boxed_view};
+ghost use Rattle.expr_tree.specs.View.{boxed_view};
 ghost use Rattle.vdm_tree.specs.StmtView.{maybe_stmt, stmt_branch_trees, stmt_branch_view, stmt_case_trees, stmt_case_view, handler_trees, handler_view};
 ghost use Rattle.stmt_depth.specs.Walks.{parts_depth};
 

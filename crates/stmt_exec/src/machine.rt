@@ -3,7 +3,7 @@
 ghost use Rattle.std.specs.Prelude.{◌≡◌, ◌≢◌, ◌<◌, ◌≤◌, ◌↔◌, List, [], ◌∷◌, IfOk, OnOk, OnErr, IsErr, IsTrue};
 ghost use Rattle.run_journal.specs.declared.answer.Answer.{Answer as AnswerView};
 ghost use Rattle.vdm_meaning.specs.Main.{asks, over as is_over, main_code};
-ghost use Rattle.vdm_tree.specs.View.{view_of};
+ghost use Rattle.expr_tree.specs.View.{view_of};
 ghost use Rattle.class_table.specs.Tables.{table_spec};
 ghost use Rattle.step_data.specs.Steps.{busy, height};
 ghost use Rattle.stmt_exec.specs.Standing.{rest, rest_at, rest_weight, rank, load, stands_with, IsSpent};

@@ -5,7 +5,7 @@ ghost use Rattle.std.specs.Borrow.{Bor};
 ghost use Rattle.abstract_syntax.specs.Classes.{SpecTree};
 ghost use Rattle.vdm_meaning.specs.Tasks.{inside};
 ghost use Rattle.vdm_meaning.specs.Statements.{stmt_plan, assigned, write_found, called, unless_returned, sequence, returned_of, return_value, written};
-ghost use Rattle.vdm_tree.specs.View.{boxed_view};
+ghost use Rattle.expr_tree.specs.View.{boxed_view};
 ghost use Rattle.vdm_tree.specs.StmtView.{stmt_view, target_view};
 ghost use Rattle.vdm_tree.specs.ClassView.{variable_view};
 ghost use Rattle.vdm_tree.specs.declared.class_def.VarDef.{VarDef};

@@ -1,9 +1,9 @@
 -- One element more of a list that a walk goes past.
 use Rattle.std.proofs.Common.{◌≡◌, ℕ, ◌+◌, ◌<◌, max, List, ◌∷◌, length, drop, get_or, subst, arith, drop-cons, add-one}
 use Rattle.abstract_syntax.specs.Depth.{expr_depth, exprs_depth, pattern_depth, patterns_depth}
-use Rattle.vdm_tree.specs.declared.expr.Expr.{Expr}
-use Rattle.vdm_tree.specs.declared.pattern.Pattern.{Pattern}
-use Rattle.vdm_tree.specs.View.{view_of, views_of, expr_trees, pattern_view, pattern_views, pattern_trees}
+use Rattle.expr_tree.specs.declared.expr.Expr.{Expr}
+use Rattle.expr_tree.specs.declared.pattern.Pattern.{Pattern}
+use Rattle.expr_tree.specs.View.{view_of, views_of, expr_trees, pattern_view, pattern_views, pattern_trees}
 use Rattle.tree_depth.specs.Walks.{reaching}
 
 pub one_more : (t u l a b w : ℕ) → u ≡ reaching t l a → reaching t l (max a b) ≡ w → reaching u l b ≡ w

@@ -19,8 +19,8 @@ use Rattle.abstract_syntax.specs.Depth.{
   patterns_depth,
   maplet_patterns_depth,
 }
-use Rattle.vdm_tree.specs.Literals.{type_view, type_views, type_trees}
-use Rattle.vdm_tree.specs.View.{
+use Rattle.type_tree.specs.TypeView.{type_view, type_views, type_trees}
+use Rattle.expr_tree.specs.View.{
   DefinedView,
   view_of,
   views_of,

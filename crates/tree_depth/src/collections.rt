@@ -1,12 +1,12 @@
 // The parts of sets, maps, sequences, tuples, records and objects.
 
 ghost use Rattle.std.specs.Prelude.{◌≡◌};
-ghost use Rattle.vdm_tree.specs.View.{view_of};
+ghost use Rattle.expr_tree.specs.View.{view_of};
 ghost use Rattle.tree_depth.specs.Walks.{parts_depth};
 ghost use Rattle.tree_depth.specs.Groups.{made_depth};
 
 use crate::part::{Part, Parts};
-use vdm_tree::Expr;
+use expr_tree::Expr;
 
 /// What stands in what makes a value of several ones; of another expression nothing.
 pub(crate) fn made_parts(expression: &Expr) -> Parts<'_>

@@ -2,8 +2,8 @@
 
 ghost use Rattle.std.specs.Prelude.{◌≡◌, IfOk};
 ghost use Rattle.abstract_syntax.specs.Depth.{expr_depth, pattern_depth, type_depth};
-ghost use Rattle.vdm_tree.specs.Literals.{type_view};
-ghost use Rattle.vdm_tree.specs.View.{view_of, pattern_view};
+ghost use Rattle.type_tree.specs.TypeView.{type_view};
+ghost use Rattle.expr_tree.specs.View.{view_of, pattern_view};
 ghost use Rattle.tree_depth.specs.Walks.{part_depth};
 
 use crate::part::Part;
@@ -13,7 +13,7 @@ use crate::visit::{finish, put_below, see, see_expr};
 use crate::walk::Walk;
 use std::alloc::Global;
 use vdm_kinds::OutOfMemory;
-use vdm_tree::{Expr, Pattern, TypeExpr};
+use expr_tree::{Expr, Pattern, TypeExpr};
 
 /// How deep the expression is. No other failure than want of memory is told, nor is a depth of 2^64.
 #[tactic(auto, using(crate::proofs::Reaching::reach_first))]

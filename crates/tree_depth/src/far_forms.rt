@@ -1,12 +1,12 @@
 // The parts of what reaches as far to the right as it can.
 
 ghost use Rattle.std.specs.Prelude.{◌≡◌};
-ghost use Rattle.vdm_tree.specs.View.{view_of};
+ghost use Rattle.expr_tree.specs.View.{view_of};
 ghost use Rattle.tree_depth.specs.Walks.{parts_depth};
 ghost use Rattle.tree_depth.specs.Groups.{far_depth};
 
 use crate::part::{Part, Parts};
-use vdm_tree::Expr;
+use expr_tree::Expr;
 
 /// What stands in a `let`, an `if`, a `cases` or behind a quantifier; of another expression nothing.
 pub(crate) fn far_parts(expression: &Expr) -> Parts<'_>

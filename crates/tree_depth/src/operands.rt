@@ -1,12 +1,12 @@
 // The operands of operators, of tests and of what stands behind its operand.
 
 ghost use Rattle.std.specs.Prelude.{◌≡◌};
-ghost use Rattle.vdm_tree.specs.View.{view_of};
+ghost use Rattle.expr_tree.specs.View.{view_of};
 ghost use Rattle.tree_depth.specs.Walks.{parts_depth};
 ghost use Rattle.tree_depth.specs.Groups.{operand_depth};
 
 use crate::part::{Part, Parts};
-use vdm_tree::Expr;
+use expr_tree::Expr;
 
 /// The operands of an operator, a test or what stands behind its operand; of another expression nothing.
 pub(crate) fn operand_parts(expression: &Expr) -> Parts<'_>

@@ -1,6 +1,6 @@
 // What a walk comes to.
 
-use vdm_tree::{
+use expr_tree::{
     Bind, Branch, Case, Defined, Expr, FieldValue, Maplet, MapletPattern, Pattern, TypeExpr,
 };
 

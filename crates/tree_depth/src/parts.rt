@@ -2,11 +2,11 @@
 
 ghost use Rattle.std.specs.Prelude.{◌≡◌, map};
 ghost use Rattle.abstract_syntax.specs.Depth.{maybe_depth, maplets_depth, field_values_depth, defined_depth, branches_depth, cases_depth};
-ghost use Rattle.vdm_tree.specs.View.{maybe_view, maplet_trees, maplet_view, field_value_trees, field_value_view, defined_trees, defined_view, branch_trees, branch_view, case_trees, case_view};
+ghost use Rattle.expr_tree.specs.View.{maybe_view, maplet_trees, maplet_view, field_value_trees, field_value_view, defined_trees, defined_view, branch_trees, branch_view, case_trees, case_view};
 ghost use Rattle.tree_depth.specs.Walks.{parts_depth, one_defined_depth};
 
 use crate::part::{Part, Parts};
-use vdm_tree::{Branch, Case, Defined, Expr, FieldValue, Maplet};
+use expr_tree::{Branch, Case, Defined, Expr, FieldValue, Maplet};
 
 /// An expression, where one is given.
 pub(crate) fn maybe_parts(expression: &Option<Box<Expr>>) -> Parts<'_>

@@ -2,11 +2,11 @@
 
 ghost use Rattle.std.specs.Prelude.{◌≡◌, ◌+◌, map};
 ghost use Rattle.abstract_syntax.specs.Depth.{pattern_depth, maplet_patterns_depth, bind_depth, binds_depth};
-ghost use Rattle.vdm_tree.specs.View.{pattern_view, maplet_pattern_view, maplet_pattern_trees, bind_view, bind_trees};
+ghost use Rattle.expr_tree.specs.View.{pattern_view, maplet_pattern_view, maplet_pattern_trees, bind_view, bind_trees};
 ghost use Rattle.tree_depth.specs.Walks.{parts_depth};
 
 use crate::part::{Part, Parts};
-use vdm_tree::{Bind, MapletPattern, Pattern};
+use expr_tree::{Bind, MapletPattern, Pattern};
 
 /// What stands in a pattern.
 pub(crate) fn pattern_parts(pattern: &Pattern) -> Parts<'_>

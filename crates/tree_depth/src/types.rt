@@ -2,11 +2,11 @@
 
 ghost use Rattle.std.specs.Prelude.{◌≡◌, ◌+◌};
 ghost use Rattle.abstract_syntax.specs.Depth.{type_depth, types_depth};
-ghost use Rattle.vdm_tree.specs.Literals.{type_view, type_views, type_trees};
+ghost use Rattle.type_tree.specs.TypeView.{type_view, type_views, type_trees};
 ghost use Rattle.tree_depth.specs.Walks.{parts_depth};
 
 use crate::part::{Part, Parts};
-use vdm_tree::TypeExpr;
+use expr_tree::TypeExpr;
 
 /// What stands in a type.
 pub(crate) fn type_parts(declared: &TypeExpr) -> Parts<'_>

@@ -2,7 +2,7 @@
 
 ghost use Rattle.std.specs.Prelude.{◌≡◌, ◌+◌, OnOk, IfOk};
 ghost use Rattle.abstract_syntax.specs.Depth.{expr_depth, exprs_depth, pattern_depth, patterns_depth};
-ghost use Rattle.vdm_tree.specs.View.{view_of, views_of, expr_trees, pattern_view, pattern_views, pattern_trees};
+ghost use Rattle.expr_tree.specs.View.{view_of, views_of, expr_trees, pattern_view, pattern_views, pattern_trees};
 ghost use Rattle.tree_depth.specs.Walks.{part_depth, parts_depth, reached, reaching};
 
 use crate::collections::made_parts;
@@ -17,7 +17,7 @@ use crate::patterns::{bind_parts, binds_parts, maplet_patterns_parts, pattern_pa
 use crate::types::{type_parts, types_parts};
 use crate::walk::{Walk, one_below};
 use vdm_kinds::OutOfMemory;
-use vdm_tree::{Expr, Pattern};
+use expr_tree::{Expr, Pattern};
 
 /// The parts come later, below so many nodes.
 #[tactic(auto, using(crate::proofs::Reaching::reach_both))]

@@ -9,7 +9,7 @@ use std::alloc::Global;
 use std::test::Fail;
 use tree_depth::expr_depth;
 use vdm_kinds::OutOfMemory;
-use vdm_tree::Expr;
+use expr_tree::Expr;
 
 fn leaves(alloc: Global) -> Result<Vec<Expr>, OutOfMemory> {
     let mut trees = Vec::new(alloc);

@@ -2,7 +2,7 @@
 
 use std::alloc::Global;
 use vdm_kinds::{Name, OutOfMemory, Part, Place, TypeName};
-use vdm_tree::{Expr, Pattern};
+use expr_tree::{Expr, Pattern};
 
 /// A place of its own for each number.
 pub(crate) fn at(line: u32) -> Place {

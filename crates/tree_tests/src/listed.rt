@@ -3,7 +3,7 @@
 use crate::helpers::{any_value, at, leaf, one, type_name};
 use std::alloc::Global;
 use vdm_kinds::{Name, OutOfMemory, Place};
-use vdm_tree::{Branch, Case, Defined, Expr, FieldValue, Maplet, Pattern};
+use expr_tree::{Branch, Case, Defined, Expr, FieldValue, Maplet, Pattern};
 
 fn with_list(kind: u32, head: Box<Expr>, parts: Vec<Expr>, place: Place) -> Expr {
     match kind {

@@ -3,7 +3,7 @@
 use crate::helpers::{any_value, at, leaf, type_name};
 use std::alloc::Global;
 use vdm_kinds::{BasicType, Counter, Name, NameAt, OutOfMemory, Place, Sign};
-use vdm_tree::{Expr, Literal, Pattern, TypeExpr};
+use expr_tree::{Expr, Literal, Pattern, TypeExpr};
 
 /// The leaves are of the kinds 0 to 9.
 pub(crate) fn leaf_of(kind: u32, names: Vec<NameAt>, place: Place) -> Expr {

@@ -5,7 +5,7 @@ use std::alloc::Global;
 use std::test::Fail;
 use tree_depth::pattern_depth;
 use vdm_kinds::{Name, OutOfMemory, Place};
-use vdm_tree::{Expr, Literal, MapletPattern, Pattern};
+use expr_tree::{Expr, Literal, MapletPattern, Pattern};
 
 // A pattern with no pattern in it, of the kinds 0 to 4. The last is round an expression.
 fn with_value(kind: u32, value: Box<Expr>, place: Place) -> Pattern {

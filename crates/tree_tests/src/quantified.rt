@@ -3,7 +3,7 @@
 use crate::helpers::{at, leaf, one};
 use std::alloc::Global;
 use vdm_kinds::{OutOfMemory, Place};
-use vdm_tree::{Bind, Expr, Pattern};
+use expr_tree::{Bind, Expr, Pattern};
 
 // A bind of one pattern, to the set.
 fn bind(alloc: Global, set: Box<Expr>) -> Result<Bind, OutOfMemory> {

@@ -5,7 +5,7 @@ use std::alloc::Global;
 use std::test::Fail;
 use tree_depth::type_depth;
 use vdm_kinds::{BasicType, Name, OutOfMemory, Place};
-use vdm_tree::TypeExpr;
+use expr_tree::TypeExpr;
 
 // The leaves are of the kinds 0 to 2.
 fn leaf_of(kind: u32, place: Place) -> TypeExpr {

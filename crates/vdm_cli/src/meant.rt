@@ -6,7 +6,7 @@ ghost use Rattle.vdm_kinds.specs.NameList.{built_in_names};
 ghost use Rattle.vdm_kinds.specs.declared.spec_fault.SpecFault.{SpecFault};
 ghost use Rattle.vdm_grammar.specs.Texts.{IsAccepted, IsFirstRefusal};
 ghost use Rattle.vdm_tree.specs.ClassView.{spec_view};
-ghost use Rattle.vdm_tree.specs.View.{view_of};
+ghost use Rattle.expr_tree.specs.View.{view_of};
 ghost use Rattle.vdm_report.specs.Ends.{status_of, HasReportLine};
 ghost use Rattle.vdm_report.specs.Outside.{around};
 ghost use Rattle.vdm_cli.specs.Meant.{MeansRun, MeansTexts, ReadsSpec};

@@ -5,7 +5,7 @@ ghost use Rattle.vdm_grammar.specs.Grammar.{IsExpression};
 ghost use Rattle.run_journal.specs.declared.entry.Entry.{Entry};
 ghost use Rattle.vdm_legal.specs.Finishes.{finish_of};
 ghost use Rattle.vdm_tree.specs.ClassView.{spec_view};
-ghost use Rattle.vdm_tree.specs.View.{view_of};
+ghost use Rattle.expr_tree.specs.View.{view_of};
 ghost use Rattle.vdm_report.specs.Ends.{status_of, HasReportLine};
 ghost use Rattle.vdm_cli.specs.RunEnds.{RunsTo, EndsRun};
 ghost use Rattle.plain_state.specs.Finishes.{finishes};

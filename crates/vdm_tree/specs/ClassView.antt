@@ -1,47 +1,6 @@
 -- The pure trees that definitions, classes and specifications of the program are.
 use Rattle.std.specs.Prelude.{map, option_map}
-use Rattle.abstract_syntax.specs.Classes.{
-  FieldTree,
-  TypeBody as TypeBodyTree,
-  same_as,
-  with_fields,
-  InvariantTree,
-  TypeDefTree,
-  ValueDefTree,
-  VariableTree,
-  VariableItem as VariableItemTree,
-  variable_item,
-  invariant_item,
-  Body as BodyTree,
-  written,
-  not_yet_specified,
-  subclass_responsibility,
-  FunctionTree,
-  OperationTree,
-  PhaseTree,
-  ThreadTree,
-  periodic,
-  procedural,
-  SyncTree,
-  permission,
-  mutex_all,
-  mutex_of,
-  BlockTree,
-  types,
-  values,
-  variables,
-  functions,
-  operations,
-  thread_of,
-  synchronisation,
-  ClassTree,
-  SpecTree,
-}
-use Rattle.vdm_tree.specs.declared.type_def.Field.{Field}
-use Rattle.vdm_tree.specs.declared.type_def.TypeBody.{TypeBody}
-use Rattle.vdm_tree.specs.declared.type_def.TypeBody.TheVariants.{Same, Fields}
-use Rattle.vdm_tree.specs.declared.type_def.TypeInvariant.{TypeInvariant}
-use Rattle.vdm_tree.specs.declared.type_def.TypeDef.{TypeDef}
+use Rattle.abstract_syntax.specs.Classes.{ValueDefTree, VariableTree, VariableItem as VariableItemTree, variable_item, invariant_item, Body as BodyTree, written, not_yet_specified, subclass_responsibility, FunctionTree, OperationTree, PhaseTree, ThreadTree, periodic, procedural, SyncTree, permission, mutex_all, mutex_of, BlockTree, types, values, variables, functions, operations, thread_of, synchronisation, ClassTree, SpecTree}
 use Rattle.vdm_tree.specs.declared.class_def.ValueDef.{ValueDef}
 use Rattle.vdm_tree.specs.declared.class_def.VarDef.{VarDef}
 use Rattle.vdm_tree.specs.declared.class_def.VariableItem.{VariableItem}
@@ -67,32 +26,10 @@ use Rattle.vdm_tree.specs.declared.sync.Thread.TheVariants.{Periodic, Procedural
 use Rattle.vdm_tree.specs.declared.sync.Sync.{Sync}
 use Rattle.vdm_tree.specs.declared.sync.Sync.TheVariants.{Permission, MutexAll, MutexOf}
 use Rattle.vdm_tree.specs.declared.spec.Spec.{Spec}
-use Rattle.vdm_tree.specs.Literals.{type_view, type_views}
-use Rattle.vdm_tree.specs.View.{boxed_view, pattern_view, pattern_views}
+use Rattle.type_tree.specs.TypeView.{type_view, type_views}
+use Rattle.expr_tree.specs.View.{boxed_view, pattern_views}
+use Rattle.expr_tree.specs.TypeDefView.{type_def_view}
 use Rattle.vdm_tree.specs.StmtView.{boxed_stmt}
-
--- ---- types
-
-abbrev pub field_view : Field → FieldTree
-field_view f = record { name = f.name; name_place = f.name_place; declared = type_view f.declared }
-
-abbrev pub type_body_view : TypeBody → TypeBodyTree
-type_body_view (Same declared) = same_as (type_view declared)
-type_body_view (Fields fields) = with_fields (map field_view fields.items)
-
-abbrev pub invariant_view : TypeInvariant → InvariantTree
-invariant_view i = record { pattern = pattern_view i.pattern; condition = boxed_view i.condition }
-
-abbrev pub type_def_view : TypeDef → TypeDefTree
-type_def_view t = record {
-  access = t.access;
-  class = t.class;
-  name = t.name;
-  name_place = t.name_place;
-  body = type_body_view t.body;
-  invariant = option_map invariant_view t.invariant;
-  place = t.place;
-}
 
 -- ---- values and variables
 

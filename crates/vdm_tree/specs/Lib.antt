@@ -1,5 +1,2 @@
-pub mod Alternatives
 pub mod ClassView
-pub mod Literals
 pub mod StmtView
-pub mod View

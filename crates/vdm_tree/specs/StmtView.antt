@@ -91,8 +91,8 @@ use Rattle.vdm_tree.specs.declared.target.TargetStep.TheVariants.{Field, Element
 use Rattle.vdm_tree.specs.declared.target.Target.{Target}
 use Rattle.vdm_tree.specs.declared.target.Target.TheVariants.{Name, Qualified}
 use Rattle.vdm_tree.specs.declared.target.Assignment.{Assignment}
-use Rattle.vdm_tree.specs.Literals.{type_view}
-use Rattle.vdm_tree.specs.View.{view_of, boxed_view, pattern_view, pattern_views, pattern_trees, bind_view, defined_view, defined_trees}
+use Rattle.type_tree.specs.TypeView.{type_view}
+use Rattle.expr_tree.specs.View.{boxed_view, pattern_view, pattern_views, pattern_trees, bind_view, defined_view, defined_trees}
 
 abbrev pub target_step_view : TargetStep → TargetStepTree
 target_step_view (Field name name_place place) = field_of name name_place place

@@ -1,11 +1,9 @@
 // Classes and what stands in them.
 
-use crate::expr::Expr;
-use crate::pattern::Pattern;
 use crate::stmt::Stmt;
 use crate::sync::{Sync, Thread};
-use crate::type_def::TypeDef;
-use crate::type_expr::TypeExpr;
+use expr_tree::{Expr, Pattern, TypeDef};
+use type_tree::TypeExpr;
 use vdm_kinds::{Access, Name, NameAt, Place};
 
 /// A class value.

@@ -2,13 +2,11 @@
 
 ghost use Rattle.std.specs.Prelude.{◌≡◌, map, option_map};
 ghost use Rattle.abstract_syntax.specs.Statements.{let_then, let_be_then, def_then, if_then, cases_then, while_do, for_numbers, for_set, for_sequence, trap_exit, trap_exits, always_after};
-ghost use Rattle.vdm_tree.specs.View.{view_of, boxed_view, pattern_view, bind_view, defined_view, defined_trees};
+ghost use Rattle.expr_tree.specs.View.{view_of, boxed_view, pattern_view, bind_view, defined_view, defined_trees};
 ghost use Rattle.vdm_tree.specs.StmtView.{stmt_view, maybe_stmt, stmt_branch_view, stmt_branch_trees, stmt_case_view, stmt_case_trees, handler_view, handler_trees};
 
-use crate::expr::Expr;
-use crate::parts::Defined;
-use crate::pattern::{Bind, Pattern};
 use crate::stmt::{Handler, Stmt, StmtBranch, StmtCase};
+use expr_tree::{Bind, Defined, Expr, Pattern};
 use vdm_kinds::{Name, Place};
 
 impl Stmt {

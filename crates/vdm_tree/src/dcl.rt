@@ -1,7 +1,7 @@
 // Local variables.
 
-use crate::expr::Expr;
-use crate::type_expr::TypeExpr;
+use expr_tree::Expr;
+use type_tree::TypeExpr;
 use vdm_kinds::{Name, Place};
 
 /// A local variable.

@@ -2,14 +2,12 @@
 
 ghost use Rattle.std.specs.Prelude.{◌≡◌, map, option_map};
 ghost use Rattle.abstract_syntax.specs.Statements.{block, assign, assign_together, call, returns, exits, in_parallel, start_thread, start_threads};
-ghost use Rattle.vdm_tree.specs.View.{view_of, boxed_view, pattern_view, pattern_views};
+ghost use Rattle.expr_tree.specs.View.{view_of, boxed_view, pattern_view, pattern_views};
 ghost use Rattle.vdm_tree.specs.StmtView.{stmt_view, stmt_trees, stmt_views, target_view, assignment_view, dcl_view, stmt_branch_view, stmt_case_view, handler_view};
 
 use crate::dcl::Dcl;
-use crate::expr::Expr;
-use crate::parts::Defined;
-use crate::pattern::{Bind, Pattern};
 use crate::target::{Assignment, Target};
+use expr_tree::{Bind, Defined, Expr, Pattern};
 use vdm_kinds::{Name, Place};
 
 /// A statement, at the place of its first token.

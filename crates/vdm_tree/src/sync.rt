@@ -1,7 +1,7 @@
 // Threads and synchronisation.
 
-use crate::expr::Expr;
 use crate::stmt::Stmt;
+use expr_tree::Expr;
 use vdm_kinds::{Name, NameAt, Place};
 
 /// What may stand behind the period of a periodic thread.

@@ -4,7 +4,7 @@ ghost use Rattle.std.specs.Prelude.{◌≡◌, map};
 ghost use Rattle.abstract_syntax.specs.Statements.{variable, variable_of_class};
 ghost use Rattle.vdm_tree.specs.StmtView.{target_view, target_step_view};
 
-use crate::expr::Expr;
+use expr_tree::Expr;
 use vdm_kinds::{Name, Place};
 
 /// One step into what a target names.

@@ -1,7 +1,7 @@
 use Rattle.std.proofs.Common.{sym, subst, arith}
 use Rattle.std.proofs.lemmas.Grind.{common_steps}
 use Rattle.abstract_syntax.specs.Expressions.{ExprTree}
-use Rattle.vdm_tree.specs.View.{view_of}
+use Rattle.expr_tree.specs.View.{view_of}
 use Rattle.vdm_grammar.specs.Reading.{Read}
 use Rattle.first_statements.specs.Views.{Reads}
 use Rattle.first_statements.proofs.Turns.{sum_on-more}

@@ -5,7 +5,7 @@ use Rattle.vdm_meaning.specs.Main.{main_code}
 use Rattle.vdm_meaning.specs.Runs.{AreLegal, IsRun}
 use Rattle.vdm_legal.proofs.Journals.{main_answers}
 use Rattle.vdm_tree.specs.ClassView.{spec_view}
-use Rattle.vdm_tree.specs.View.{view_of}
+use Rattle.expr_tree.specs.View.{view_of}
 use Rattle.plain_judge.proofs.run.are_legal.Given as goal
 
 -- the entries so far are legal, so that the rest decides, and the machine stands where main stands behind them

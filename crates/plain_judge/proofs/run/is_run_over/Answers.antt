@@ -1,6 +1,6 @@
 use Rattle.std.proofs.Common.{ap, ◌∙◌}
 use Rattle.vdm_meaning.specs.Main.{main_code}
-use Rattle.vdm_tree.specs.View.{view_of}
+use Rattle.expr_tree.specs.View.{view_of}
 use Rattle.plain_judge.proofs.run.is_run_over.Goals as goal
 
 pub are_legal-requires : goal.are_legal-requires

@@ -1,7 +1,7 @@
 use Rattle.std.proofs.Common.{◌≡◌, IfOk, subst}
 use Rattle.plain_judge.specs.Standings.{stands}
 use Rattle.vdm_meaning.specs.Main.{main_code}
-use Rattle.vdm_tree.specs.View.{view_of}
+use Rattle.expr_tree.specs.View.{view_of}
 use Rattle.plain_judge.proofs.standing.next_question.Goals as goal
 
 pub returns : goal.returns

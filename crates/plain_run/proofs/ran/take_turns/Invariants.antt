@@ -1,5 +1,5 @@
 use Rattle.vdm_tree.specs.ClassView.{spec_view}
-use Rattle.vdm_tree.specs.View.{view_of}
+use Rattle.expr_tree.specs.View.{view_of}
 use Rattle.stmt_exec.specs.Standing.{rest, rank}
 use Rattle.plain_state.specs.Entered.{journal}
 use Rattle.plain_run.specs.Turns.{GoesOn}

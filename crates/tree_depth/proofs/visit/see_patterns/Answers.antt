@@ -1,6 +1,6 @@
 use Rattle.std.proofs.Common.{◌≡◌}
 use Rattle.abstract_syntax.specs.Depth.{pattern_depth}
-use Rattle.vdm_tree.specs.View.{pattern_view}
+use Rattle.expr_tree.specs.View.{pattern_view}
 use Rattle.tree_depth.specs.Walks.{reached, reaching}
 use Rattle.tree_depth.proofs.Lists.{next_pattern}
 use Rattle.tree_depth.proofs.visit.see_patterns.Goals as goal

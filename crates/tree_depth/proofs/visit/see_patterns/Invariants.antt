@@ -1,6 +1,6 @@
 use Rattle.std.proofs.Common.{◌≡◌, drop}
 use Rattle.abstract_syntax.specs.Depth.{patterns_depth}
-use Rattle.vdm_tree.specs.View.{pattern_views, pattern_trees}
+use Rattle.expr_tree.specs.View.{pattern_views, pattern_trees}
 use Rattle.tree_depth.specs.Walks.{reached, reaching}
 use Rattle.tree_depth.proofs.visit.see_patterns.Given as goal
 

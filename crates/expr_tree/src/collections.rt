@@ -2,7 +2,7 @@
 
 ghost use Rattle.std.specs.Prelude.{◌≡◌, map};
 ghost use Rattle.abstract_syntax.specs.Expressions.{set_enumeration, set_range, set_comprehension, map_enumeration, map_comprehension, sequence_enumeration, sequence_comprehension};
-ghost use Rattle.vdm_tree.specs.View.{view_of, views_of, expr_trees, maybe_view, bind_trees, bind_view, pattern_view, maplet_trees, maplet_view};
+ghost use Rattle.expr_tree.specs.View.{view_of, views_of, expr_trees, maybe_view, bind_trees, bind_view, pattern_view, maplet_trees, maplet_view};
 
 use crate::expr::Expr;
 use crate::parts::Maplet;

@@ -3,13 +3,12 @@
 ghost use Rattle.std.specs.Prelude.{◌≡◌};
 ghost use Rattle.abstract_syntax.specs.Literals.{whole_literal};
 ghost use Rattle.abstract_syntax.specs.Expressions.{literal, named, qualified, old_value};
-ghost use Rattle.vdm_tree.specs.Literals.{literal_view};
-ghost use Rattle.vdm_tree.specs.View.{view_of};
+ghost use Rattle.type_tree.specs.LiteralView.{literal_view};
+ghost use Rattle.expr_tree.specs.View.{view_of};
 
-use crate::literal::Literal;
 use crate::parts::{Branch, Case, Defined, FieldValue, Maplet};
 use crate::pattern::{Bind, Pattern};
-use crate::type_expr::TypeExpr;
+use type_tree::{Literal, TypeExpr};
 use vdm_kinds::{BasicType, Counter, Name, NameAt, Place, Sign, TypeName};
 
 /// An expression. Its place is where a fault of the node stands: of an infix operator the operator's, of an application its

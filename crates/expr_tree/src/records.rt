@@ -2,12 +2,12 @@
 
 ghost use Rattle.std.specs.Prelude.{◌≡◌, map};
 ghost use Rattle.abstract_syntax.specs.Expressions.{make_tuple, make_token, make_record, modify_record, is_of_type, is_of_named, is_of_basic, is_of_class, is_of_base_class, same_class, same_base_class, create, history};
-ghost use Rattle.vdm_tree.specs.Literals.{type_view};
-ghost use Rattle.vdm_tree.specs.View.{view_of, views_of, expr_trees, field_value_trees, field_value_view};
+ghost use Rattle.type_tree.specs.TypeView.{type_view};
+ghost use Rattle.expr_tree.specs.View.{view_of, views_of, expr_trees, field_value_trees, field_value_view};
 
 use crate::expr::Expr;
 use crate::parts::FieldValue;
-use crate::type_expr::TypeExpr;
+use type_tree::TypeExpr;
 use vdm_kinds::{BasicType, Counter, Name, NameAt, Place, TypeName};
 
 impl Expr {

@@ -4,9 +4,9 @@ ghost use Rattle.std.specs.Prelude.{◌≡◌, ◌↔◌, ℕ, Bool, List, Optio
 ghost use Rattle.std.specs.Borrow.{Bor};
 ghost use Rattle.vdm_kinds.specs.declared.name.Name.{Name};
 ghost use Rattle.abstract_syntax.specs.Classes.{TypeDefTree};
-ghost use Rattle.vdm_tree.specs.declared.type_def.TypeDef.{TypeDef};
-ghost use Rattle.vdm_tree.specs.Alternatives.{Finder, IsRanked};
-ghost use Rattle.vdm_tree.specs.ClassView.{type_def_view};
+ghost use Rattle.expr_tree.specs.declared.type_def.TypeDef.{TypeDef};
+ghost use Rattle.expr_tree.specs.Alternatives.{Finder, IsRanked};
+ghost use Rattle.expr_tree.specs.TypeDefView.{type_def_view};
 
 use crate::type_def::TypeDef;
 use vdm_kinds::Name;

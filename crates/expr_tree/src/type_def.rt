@@ -2,7 +2,7 @@
 
 use crate::expr::Expr;
 use crate::pattern::Pattern;
-use crate::type_expr::TypeExpr;
+use type_tree::TypeExpr;
 use vdm_kinds::{Access, Name, Place};
 
 /// A field of a record type.

@@ -2,11 +2,11 @@
 
 ghost use Rattle.std.specs.Prelude.{◌≡◌, map};
 ghost use Rattle.abstract_syntax.specs.Expressions.{bound, literal_pattern, equal_to, set_pattern, sequence_pattern, map_pattern, tuple_pattern, record_pattern, concatenation_pattern, bind_in};
-ghost use Rattle.vdm_tree.specs.Literals.{literal_view};
-ghost use Rattle.vdm_tree.specs.View.{view_of, pattern_view, pattern_views, pattern_trees, maplet_pattern_view, maplet_pattern_trees, bind_view};
+ghost use Rattle.type_tree.specs.LiteralView.{literal_view};
+ghost use Rattle.expr_tree.specs.View.{view_of, pattern_view, pattern_views, pattern_trees, maplet_pattern_view, maplet_pattern_trees, bind_view};
 
 use crate::expr::Expr;
-use crate::literal::Literal;
+use type_tree::Literal;
 use vdm_kinds::{Name, Place, TypeName};
 
 /// A pattern, at the place of its first token.

@@ -2,7 +2,7 @@
 
 ghost use Rattle.std.specs.Prelude.{◌≡◌, map};
 ghost use Rattle.abstract_syntax.specs.Expressions.{let_in, let_be, def_in, if_else, cases_of, for_all, exists_some, exists_one, iota_of};
-ghost use Rattle.vdm_tree.specs.View.{view_of, maybe_view, bind_trees, bind_view, pattern_view, defined_trees, defined_view, branch_trees, branch_view, case_trees, case_view};
+ghost use Rattle.expr_tree.specs.View.{view_of, maybe_view, bind_trees, bind_view, pattern_view, defined_trees, defined_view, branch_trees, branch_view, case_trees, case_view};
 
 use crate::expr::Expr;
 use crate::parts::{Branch, Case, Defined};

@@ -1,12 +1,12 @@
 // What stands in expressions and is no expression itself.
 
 ghost use Rattle.std.specs.Prelude.{◌≡◌, option_map};
-ghost use Rattle.vdm_tree.specs.Literals.{type_view};
-ghost use Rattle.vdm_tree.specs.View.{view_of, pattern_view, pattern_views, maplet_view, field_value_view, defined_view, branch_view, case_view};
+ghost use Rattle.type_tree.specs.TypeView.{type_view};
+ghost use Rattle.expr_tree.specs.View.{view_of, pattern_view, pattern_views, maplet_view, field_value_view, defined_view, branch_view, case_view};
 
 use crate::expr::Expr;
 use crate::pattern::Pattern;
-use crate::type_expr::TypeExpr;
+use type_tree::TypeExpr;
 use vdm_kinds::{Name, Place};
 
 /// `a |-> b`

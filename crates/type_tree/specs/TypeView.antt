@@ -1,14 +1,5 @@
--- The pure trees that literals and types of the program are.
-use Rattle.std.specs.Prelude.{List, [], ◌∷◌, map, Option, option_map}
-use Rattle.abstract_syntax.specs.Literals.{
-  LiteralTree,
-  whole_literal,
-  character_literal,
-  text_literal,
-  quote_literal,
-  boolean_literal,
-  nil_literal,
-}
+-- The pure trees that types of the program are.
+use Rattle.std.specs.Prelude.{List, [], ◌∷◌, map}
 use Rattle.abstract_syntax.specs.Types.{
   TypeTree,
   TypeTrees,
@@ -27,10 +18,8 @@ use Rattle.abstract_syntax.specs.Types.{
   no_types,
   one_type,
 }
-use Rattle.vdm_tree.specs.declared.literal.Literal.{Literal}
-use Rattle.vdm_tree.specs.declared.literal.Literal.TheVariants.{Whole, Character, Text, Quote, Bool, Nil}
-use Rattle.vdm_tree.specs.declared.type_expr.TypeExpr.{TypeExpr, fold-TypeExpr}
-use Rattle.vdm_tree.specs.declared.type_expr.TypeExpr.TheOpen.{
+use Rattle.type_tree.specs.declared.type_expr.TypeExpr.{TypeExpr, fold-TypeExpr}
+use Rattle.type_tree.specs.declared.type_expr.TypeExpr.TheOpen.{
   TypeExpr-F,
   Basic,
   Quote as QuoteType,
@@ -45,14 +34,6 @@ use Rattle.vdm_tree.specs.declared.type_expr.TypeExpr.TheOpen.{
   Product,
   Union,
 }
-
-abbrev pub literal_view : Literal → LiteralTree
-literal_view (Whole n) = whole_literal n
-literal_view (Character c) = character_literal c
-literal_view (Text characters) = text_literal characters.items
-literal_view (Quote name) = quote_literal name
-literal_view (Bool b) = boolean_literal b
-literal_view Nil = nil_literal
 
 -- a list of types as a part of a tree
 abbrev pub type_trees : List TypeTree → TypeTrees

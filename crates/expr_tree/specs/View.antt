@@ -96,16 +96,16 @@ use Rattle.abstract_syntax.specs.Expressions.{
   no_maplet_patterns,
   one_maplet_pattern,
 }
-use Rattle.vdm_tree.specs.declared.expr.Expr.{Expr, fold-Expr}
-use Rattle.vdm_tree.specs.declared.pattern.Pattern.{Pattern, fold-Pattern}
-use Rattle.vdm_tree.specs.declared.parts.Branch.{Branch, fold-Branch}
-use Rattle.vdm_tree.specs.declared.parts.Case.{Case, fold-Case}
-use Rattle.vdm_tree.specs.declared.parts.Defined.{Defined, fold-Defined}
-use Rattle.vdm_tree.specs.declared.parts.FieldValue.{FieldValue, fold-FieldValue}
-use Rattle.vdm_tree.specs.declared.parts.Maplet.{Maplet, fold-Maplet}
-use Rattle.vdm_tree.specs.declared.pattern.Bind.{Bind, fold-Bind}
-use Rattle.vdm_tree.specs.declared.pattern.MapletPattern.{MapletPattern, fold-MapletPattern}
-use Rattle.vdm_tree.specs.declared.expr.Expr.TheOpen.{
+use Rattle.expr_tree.specs.declared.expr.Expr.{Expr, fold-Expr}
+use Rattle.expr_tree.specs.declared.pattern.Pattern.{Pattern, fold-Pattern}
+use Rattle.expr_tree.specs.declared.parts.Branch.{Branch, fold-Branch}
+use Rattle.expr_tree.specs.declared.parts.Case.{Case, fold-Case}
+use Rattle.expr_tree.specs.declared.parts.Defined.{Defined, fold-Defined}
+use Rattle.expr_tree.specs.declared.parts.FieldValue.{FieldValue, fold-FieldValue}
+use Rattle.expr_tree.specs.declared.parts.Maplet.{Maplet, fold-Maplet}
+use Rattle.expr_tree.specs.declared.pattern.Bind.{Bind, fold-Bind}
+use Rattle.expr_tree.specs.declared.pattern.MapletPattern.{MapletPattern, fold-MapletPattern}
+use Rattle.expr_tree.specs.declared.expr.Expr.TheOpen.{
   Expr-F,
   Expr::Literal,
   Name,
@@ -154,7 +154,7 @@ use Rattle.vdm_tree.specs.declared.expr.Expr.TheOpen.{
   ExistsOne,
   Iota,
 }
-use Rattle.vdm_tree.specs.declared.expr.Expr.TheOpen.{
+use Rattle.expr_tree.specs.declared.expr.Expr.TheOpen.{
   Pattern-F,
   AnyValue,
   Bound,
@@ -175,7 +175,8 @@ use Rattle.vdm_tree.specs.declared.expr.Expr.TheOpen.{
   Bind-F,
   MapletPattern-F,
 }
-use Rattle.vdm_tree.specs.Literals.{literal_view, type_view}
+use Rattle.type_tree.specs.LiteralView.{literal_view}
+use Rattle.type_tree.specs.TypeView.{type_view}
 
 -- ---- what stands in a list of its own kind
 

@@ -2,7 +2,7 @@
 
 ghost use Rattle.std.specs.Prelude.{◌≡◌};
 ghost use Rattle.abstract_syntax.specs.Expressions.{apply, subsequence, select, select_of_class, select_part};
-ghost use Rattle.vdm_tree.specs.View.{view_of, views_of, expr_trees};
+ghost use Rattle.expr_tree.specs.View.{view_of, views_of, expr_trees};
 
 use crate::expr::Expr;
 use vdm_kinds::{Name, Place};

@@ -2,7 +2,7 @@
 
 ghost use Rattle.std.specs.Prelude.{◌≡◌};
 ghost use Rattle.abstract_syntax.specs.Types.{set_type, seq_type, seq1_type, map_type, inmap_type, optional_type, bracketed_type, basic_type, named_type, product_type, union_type};
-ghost use Rattle.vdm_tree.specs.Literals.{type_view, type_views, type_trees};
+ghost use Rattle.type_tree.specs.TypeView.{type_view, type_views, type_trees};
 
 use vdm_kinds::{BasicType, Name, Place, TypeName};
 

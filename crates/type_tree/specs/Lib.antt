@@ -1,0 +1,2 @@
+pub mod LiteralView
+pub mod TypeView
