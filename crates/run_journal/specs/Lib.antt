@@ -1,4 +1,3 @@
 pub mod Threads
 pub mod Made
 pub mod Parts
-pub mod Numbers

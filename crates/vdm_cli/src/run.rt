@@ -1,7 +1,6 @@
 // The run of a specification and an expression, and how it ends.
 
 ghost use Rattle.std.specs.Prelude.{◌≡◌, ◌≤◌, List, length, Some, IfSome};
-ghost use Rattle.vdm_grammar.specs.Grammar.{IsExpression};
 ghost use Rattle.run_journal.specs.declared.entry.Entry.{Entry};
 ghost use Rattle.vdm_legal.specs.Finishes.{finish_of};
 ghost use Rattle.vdm_tree.specs.ClassView.{spec_view};
@@ -22,7 +21,6 @@ const STEP_LIMIT: u64 = 1_000_000;
 /// so far stay.
 pub fn run(alloc: Global, spec: &Spec, tree: &Expr, log: bool) -> Report
     requires one { length spec.now.classes.items ≤ 1 }
-    requires expression { IsExpression (view_of tree.now) }
     ensures run { RunsTo (spec_view spec.now) (view_of tree.now) result.journal result.end }
     ensures status { result.status ≡ status_of result.end }
     ensures log { result.log ≡ log }

@@ -13,7 +13,7 @@ use Rattle.run_journal.specs.declared.deed.Deed.{Deed}
 use Rattle.run_journal.specs.declared.deed.Deed.TheVariants as deed
 use Rattle.run_journal.specs.declared.entry.Entry.{Entry}
 use Rattle.run_journal.specs.declared.write.Write.{Write as Pair}
-use Rattle.run_journal.specs.Numbers.{IsNumber, IsNumberSlot, IsNumberPair}
+use Rattle.vdm_legal.proofs.Numbers.{IsNumber, IsNumberSlot, IsNumberPair}
 use Rattle.run_journal.specs.Parts.{is_on, object_part}
 use Rattle.vdm_legal.specs.State.{variable_ref, is_same_variable, last_of, written_in, written_by, last_written, slot_among, slot_in_class, slot_made, first_slot, state_of}
 use Rattle.vdm_legal.proofs.Sanity.{KeepsNumbers, IsSane}

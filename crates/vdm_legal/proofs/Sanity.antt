@@ -10,7 +10,7 @@ use Rattle.run_journal.specs.declared.deed.Deed.TheVariants as deed
 use Rattle.run_journal.specs.declared.entry.Entry.{Entry}
 use Rattle.run_journal.specs.declared.thread.Thread.TheVariants.{Main}
 use Rattle.run_journal.specs.Made.{entry}
-use Rattle.run_journal.specs.Numbers.{IsNumberSlot, IsNumberPair}
+use Rattle.vdm_legal.proofs.Numbers.{IsNumberSlot, IsNumberPair}
 use Rattle.run_journal.specs.Parts.{is_on, object_part}
 use Rattle.vdm_legal.specs.Finishes.{decided, finish_of}
 use Rattle.vdm_legal.specs.State.{is_request, is_activation, is_finish}

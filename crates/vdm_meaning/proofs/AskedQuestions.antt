@@ -1,30 +1,25 @@
--- What main asks behind a run it may ask: it may be answered, it gives numbers, it is one of few, and the run is not finished.
+-- What main asks behind a run it may ask: it may be answered, it is one of few, and the run is not finished.
 use Rattle.std.proofs.Common.{◌≡◌, ◌⊎◌, inl, inr, ℕ, suc, ◌+◌, ◌*◌, ◌≤◌, List, [], ◌∷◌, ◌++◌, length, Some, None, refl, sym, ap, ◌∙◌, subst, append-nil, arith}
-use Rattle.std.specs.List.{AllByRecursion as Each}
 use Rattle.abstract_syntax.specs.Classes.{SpecTree}
 use Rattle.abstract_syntax.specs.Expressions.{ExprTree}
 use Rattle.run_journal.specs.declared.answer.Answer.{Answer}
 use Rattle.run_journal.specs.declared.entry.Entry.{Entry}
 use Rattle.run_journal.specs.declared.question.Question.{Question}
-use Rattle.run_journal.specs.declared.question.Question.TheVariants.{Class, New, Req, Act, Fin, Read, Write, End, Fail}
-use Rattle.run_journal.specs.Numbers.{HasNumbers}
+use Rattle.run_journal.specs.declared.question.Question.TheVariants.{Fail}
 use Rattle.plans.specs.Plans.{Outcome, gives, faults, needs}
 use Rattle.plans.specs.Steps.{Step, answers, last, Failed, MayHaveAsked}
 use Rattle.plans.proofs.Playing.{answers-behind}
 use Rattle.vdm_meaning.specs.Faults.{Fault}
 use Rattle.vdm_legal.specs.ClassObjects.{classes_of}
-use Rattle.vdm_meaning.specs.Main.{GivesNoObject, asks, standing_of, main_code}
+use Rattle.vdm_meaning.specs.Main.{asks, standing_of, main_code}
 use Rattle.vdm_legal.specs.Ready.{IsReady}
 use Rattle.vdm_legal.specs.Finishes.{finish_of}
-use Rattle.vdm_meaning.specs.Runs.{IsLegal, AreLegal, IsRun}
+use Rattle.vdm_meaning.specs.Runs.{IsRun}
 use Rattle.vdm_meaning.specs.Tasks.{Flow}
-use Rattle.vdm_legal.proofs.Births.{held-number}
 use Rattle.vdm_legal.proofs.Journals.{main_answers}
-use Rattle.vdm_meaning.proofs.Rules.{AsksNumbers, MayAsk, rules}
-use Rattle.vdm_meaning.proofs.Runs.{run_front, legal-for_main, legal-on}
+use Rattle.vdm_meaning.proofs.Rules.{MayAsk, rules}
+use Rattle.vdm_meaning.proofs.Runs.{run_front}
 use Rattle.vdm_meaning.proofs.RunSteps.{IsCut, IsMainSound, cut, last-steps, length-steps, main_outcome, run-answers, run-sound, steps_of}
-use Rattle.vdm_legal.proofs.Sanity.{IsSane}
-use Rattle.vdm_legal.proofs.Taken.{IsEntryFor, legal-entry}
 
 -- what main asks: what its code needs, or to fail
 abbrev pub IsNeedOrFault : Outcome Flow Question Answer Fault → Question → Type 0
@@ -46,7 +41,7 @@ abbrev pub most_answers : SpecTree → ℕ → ℕ
 most_answers spec units = suc (length (classes_of spec)) + 3 * units
 
 pub record IsAsked (spec : SpecTree) (tree : ExprTree) (units : ℕ) (entries : List Entry) (q : Question) : Type 0 where
-  pub may : MayAsk spec tree entries q
+  pub may : MayAsk spec entries q
   pub few : length entries ≤ most_answers spec units
 
 -- main failed behind some front of the entries; `left` are the answers behind it
@@ -56,7 +51,7 @@ pub record HasFailed (spec : SpecTree) (tree : ExprTree) (units : ℕ) (entries 
   pub all : entries ≡ front ++ rest
   pub behind : answers (steps_of front rest) ≡ left
   pub there : main_outcome spec tree units (main_answers front) ≡ faults f []
-  pub may : MayAsk spec tree front (Fail f.fault f.exit f.place)
+  pub may : MayAsk spec front (Fail f.fault f.exit f.place)
   pub few : length front ≤ most_answers spec units
 
 module _ (spec : SpecTree) (tree : ExprTree) (units : ℕ) where
@@ -65,12 +60,12 @@ module _ (spec : SpecTree) (tree : ExprTree) (units : ℕ) where
     needed q e =
         let sound = subst (IsMainSound spec tree units entries) e (run-sound spec tree units entries h) in
         record {
-          may = subst (λ xs. MayAsk spec tree xs q) (last-steps [] entries) sound.0;
+          may = subst (λ xs. MayAsk spec xs q) (last-steps [] entries) sound.0;
           few = omega (arith, sound.1, length-steps [] entries);
         }
 
     module _ (f : Fault) (left : List Answer) (e : main_outcome spec tree units (main_answers entries) ≡ faults f left) where
-      sound-failed : Failed (rules spec tree) (MayHaveAsked (Some 3) (Some (suc (length (classes_of spec)))) units) [] (steps_of [] entries) (main_outcome spec tree units) f
+      sound-failed : Failed (rules spec) (MayHaveAsked (Some 3) (Some (suc (length (classes_of spec)))) units) [] (steps_of [] entries) (main_outcome spec tree units) f
       sound-failed = subst (IsMainSound spec tree units entries) e (run-sound spec tree units entries h)
 
       left-answers : (taken more : List (Step Answer (List Entry))) → steps_of [] entries ≡ taken ++ more → main_outcome spec tree units (answers taken ++ answers more) ≡ faults f (answers more) → answers more ≡ left
@@ -81,7 +76,7 @@ module _ (spec : SpecTree) (tree : ExprTree) (units : ℕ) where
           let is : faults f (answers more) ≡ faults f left = sym known ∙ whole in
           cc
 
-      has_failed-by : (taken more : List (Step Answer (List Entry))) → ((bs : List Answer) → main_outcome spec tree units (answers taken ++ bs) ≡ faults f bs) → answers more ≡ left → MayAsk spec tree (last [] taken) (Fail f.fault f.exit f.place) → length taken ≤ most_answers spec units → IsCut [] entries taken more → HasFailed spec tree units entries f left
+      has_failed-by : (taken more : List (Step Answer (List Entry))) → ((bs : List Answer) → main_outcome spec tree units (answers taken ++ bs) ≡ faults f bs) → answers more ≡ left → MayAsk spec (last [] taken) (Fail f.fault f.exit f.place) → length taken ≤ most_answers spec units → IsCut [] entries taken more → HasFailed spec tree units entries f left
       has_failed-by taken more reached behind may few parts =
           let run_then : IsRun spec tree units parts.front = run_front spec tree units parts.front parts.rest (subst (IsRun spec tree units) parts.all h) in
           let same : main_answers parts.front ≡ answers taken = sym (run-answers spec tree units parts.front run_then) ∙ ap answers (sym parts.first) in
@@ -93,7 +88,7 @@ module _ (spec : SpecTree) (tree : ExprTree) (units : ℕ) where
             all = parts.all;
             behind = ap answers (sym parts.behind) ∙ behind;
             there = ap (main_outcome spec tree units) same ∙ none;
-            may = subst (λ xs. MayAsk spec tree xs (Fail f.fault f.exit f.place)) (ap (last []) parts.first ∙ last-steps [] parts.front) may;
+            may = subst (λ xs. MayAsk spec xs (Fail f.fault f.exit f.place)) (ap (last []) parts.first ∙ last-steps [] parts.front) may;
             few = omega (arith, few, count);
           }
 
@@ -121,33 +116,3 @@ module _ (spec : SpecTree) (tree : ExprTree) (units : ℕ) where
 
   pub asked-unfinished : (before : List Entry) (q : Question) → IsRun spec tree units before → main_code spec tree units (main_answers before) ≡ asks q → finish_of before ≡ None
   asked-unfinished before q h e = (asked before h q e).may.sane.unfinished
-
--- ---- numbers
-
-module _ (spec : SpecTree) (tree : ExprTree) (before : List Entry) (sane : IsSane before) (no_object : GivesNoObject tree) where
-  has-numbers : (q : Question) (a : Answer) (e : Entry) → AsksNumbers tree q → IsEntryFor spec before q a e → HasNumbers e.deed
-  has-numbers (Class o class slots) a e h is = subst (λ (x : Entry). HasNumbers x.deed) (sym is.1) h
-  has-numbers (New class slots) a e h is = subst (λ (x : Entry). HasNumbers x.deed) (sym is.3) h
-  has-numbers (Req o op) a e h is = subst (λ (x : Entry). HasNumbers x.deed) (sym is.1) tt
-  has-numbers (Act o op) a e h is = subst (λ (x : Entry). HasNumbers x.deed) (sym is.1) tt
-  has-numbers (Fin o op) a e h is = subst (λ (x : Entry). HasNumbers x.deed) (sym is.1) tt
-  has-numbers (Read o var) a e h is = subst (λ (x : Entry). HasNumbers x.deed) (sym is.3) (held-number spec before o var is.0 sane is.2)
-  has-numbers (Write o pairs) a e h is = subst (λ (x : Entry). HasNumbers x.deed) (sym is.1) h
-  has-numbers (End slot) a e h is = subst (λ (x : Entry). HasNumbers x.deed) (sym is.1) (h no_object)
-  has-numbers (Fail fault exit place) a e h is = subst (λ (x : Entry). HasNumbers x.deed) (sym is.1) h
-  has-numbers _ a e h is = absurd is
-
-module _ (spec : SpecTree) (tree : ExprTree) (units : ℕ) where
-  entry-numbers : (before : List Entry) (e : Entry) → GivesNoObject tree → IsRun spec tree units before → IsLegal spec tree units before e → HasNumbers e.deed
-  entry-numbers before e no_object h legal =
-      let of_main = legal-for_main spec tree units before e legal in
-      let may = (asked spec tree units before h of_main.question of_main.asked).may in
-      has-numbers spec tree before may.sane no_object of_main.question of_main.answer e may.numbers (legal-entry spec before of_main.question of_main.answer e of_main.made_of legal.at_object)
-
-  numbers-behind : (before more : List Entry) → GivesNoObject tree → IsRun spec tree units before → AreLegal spec tree units before more → Each (λ (e : Entry). HasNumbers e.deed) more
-  numbers-behind before [] no_object run legal = tt
-  numbers-behind before (e ∷ more) no_object run legal =
-      (entry-numbers before e no_object run legal.0, numbers-behind (before ++ e ∷ []) more no_object (legal-on spec tree units [] before e run legal.0) legal.1)
-
-  pub run-numbers : (entries : List Entry) → GivesNoObject tree → IsRun spec tree units entries → Each (λ (e : Entry). HasNumbers e.deed) entries
-  run-numbers entries no_object h = numbers-behind [] entries no_object tt h

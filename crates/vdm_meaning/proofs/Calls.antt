@@ -17,7 +17,7 @@ use Rattle.run_journal.specs.declared.entry.Entry.{Entry}
 use Rattle.run_journal.specs.declared.question.Question.TheVariants.{Req, Act, Fin}
 use Rattle.run_journal.specs.declared.thread.Thread.TheVariants.{Main}
 use Rattle.run_journal.specs.Made.{entry}
-use Rattle.run_journal.specs.Numbers.{IsNumberSlot}
+use Rattle.vdm_legal.proofs.Numbers.{IsNumberSlot}
 use Rattle.plans.specs.Plans.{ask}
 use Rattle.vdm_meaning.specs.Calls.{Wanted, a_value, no_value, given, operation_ref, left_by, tested, finished, begun, activated, call_of, call_found, call_on_class, call_on, call_plan}
 use Rattle.vdm_meaning.specs.Tasks.{Env, inside, Flow, gave}
@@ -41,11 +41,11 @@ tested-number (Some declared) (Held v) = by (fits declared v) refl
     by true e = fits-number declared v e
     by false e = tt
 
-module _ (spec : SpecTree) (tree : ExprTree) (left : List Entry → Flow → Type 0) (first : List Entry) (from_number : (entries : List Entry) (flow : Flow) → IsSane entries → GivesNumber flow → left entries flow) where
-  safe-given : (n : Option ℕ) (now : List Entry) (env : Env) (wanted : Wanted) (place : Place) (slot : Slot) → IsAt spec first now env → IsNumberSlot slot → IsSafe spec tree left n first now (given wanted place slot)
+module _ (spec : SpecTree) (left : List Entry → Flow → Type 0) (first : List Entry) (from_number : (entries : List Entry) (flow : Flow) → IsSane entries → GivesNumber flow → left entries flow) where
+  safe-given : (n : Option ℕ) (now : List Entry) (env : Env) (wanted : Wanted) (place : Place) (slot : Slot) → IsAt spec first now env → IsNumberSlot slot → IsSafe spec left n first now (given wanted place slot)
   safe-given n now env no_value place slot is_at h = (is_at.within, from_number now (gave slot) is_at.here.sane h)
   safe-given n now env a_value place (Held v) is_at h = (is_at.within, from_number now (gave (Held v)) is_at.here.sane h)
-  safe-given n now env a_value place Unset is_at h = may-fail spec tree now env NoReturn place is_at.here
+  safe-given n now env a_value place Unset is_at h = may-fail spec now env NoReturn place is_at.here
 
   module _ (before : List Entry) (env : Env) (is_at : IsAt spec first before env) (class : ClassTree) (me : ℕ) (op : OperationTree) (place : Place) (wanted : Wanted) (born : IsBorn spec before me class) where
     callee-requested : MayRun spec (behind_request before me (operation_ref class op)) (inside me class)
@@ -61,54 +61,54 @@ module _ (spec : SpecTree) (tree : ExprTree) (left : List Entry → Flow → Typ
       at-end : IsAt spec first (behind_finish after me (operation_ref class op)) env
       at-end = at-later spec first before (behind_finish after me (operation_ref class op)) env is_at (finished-within before me (operation_ref class op) is_at.here.sane after w) (finished-sane before me (operation_ref class op) is_at.here.sane after w sane)
 
-      safe-finished : (result : Result Slot RunFault) → IfOk result IsNumberSlot → IsSafe spec tree left (Some 1) first after (finished class me op place wanted result)
-      safe-finished (Err fault) h = may-fail spec tree after (inside me class) fault place callee-done
+      safe-finished : (result : Result Slot RunFault) → IfOk result IsNumberSlot → IsSafe spec left (Some 1) first after (finished class me op place wanted result)
+      safe-finished (Err fault) h = may-fail spec after (inside me class) fault place callee-done
       safe-finished (Ok slot) h =
-          safe-ask spec tree left first after 0 (λ a. given wanted place slot) (Fin me (operation_ref class op)) (entry Main me (deed.Fin (operation_ref class op))) (λ a taken is. is)
-          (record { ready = (born-there spec after me class callee-done.stands, fin-waits before me (operation_ref class op) is_at.here.sane after w); sane = sane; numbers = tt })
+          safe-ask spec left first after 0 (λ a. given wanted place slot) (Fin me (operation_ref class op)) (entry Main me (deed.Fin (operation_ref class op))) (λ a taken is. is)
+          (record { ready = (born-there spec after me class callee-done.stands, fin-waits before me (operation_ref class op) is_at.here.sane after w); sane = sane })
           (safe-given (Some 0) (behind_finish after me (operation_ref class op)) env wanted place slot at-end h)
 
-    safe-begun : (body : Body StmtTree) → IsSafe spec tree left (Some 1) first (behind_activation before me (operation_ref class op)) (begun class me op place wanted body)
+    safe-begun : (body : Body StmtTree) → IsSafe spec left (Some 1) first (behind_activation before me (operation_ref class op)) (begun class me op place wanted body)
     safe-begun (written body) = (
       callee-begun,
       λ after flow w sane. safe-finished after w sane (tested op.result_type (left_by flow)) (tested-number op.result_type (left_by flow)),
     )
-    safe-begun _ = may-fail spec tree _ (inside me class) Undefined place callee-begun
+    safe-begun _ = may-fail spec _ (inside me class) Undefined place callee-begun
 
-    safe-activated : IsSafe spec tree left (Some 1) first (behind_activation before me (operation_ref class op)) (activated class me op place wanted Done)
+    safe-activated : IsSafe spec left (Some 1) first (behind_activation before me (operation_ref class op)) (activated class me op place wanted Done)
     safe-activated = safe-begun op.body
 
-    safe-requested : IsSafe spec tree left (Some 2) first (behind_request before me (operation_ref class op)) (ask (Act me (operation_ref class op)) (activated class me op place wanted))
+    safe-requested : IsSafe spec left (Some 2) first (behind_request before me (operation_ref class op)) (ask (Act me (operation_ref class op)) (activated class me op place wanted))
     safe-requested =
-        safe-ask spec tree left first (behind_request before me (operation_ref class op)) 1 (activated class me op place wanted) (Act me (operation_ref class op)) (entry Main me (deed.Act (operation_ref class op))) (λ a taken is. is)
-        (record { ready = (born-there spec (behind_request before me (operation_ref class op)) me class callee-requested.stands, act-waits before me (operation_ref class op) is_at.here.sane); sane = callee-requested.sane; numbers = tt })
+        safe-ask spec left first (behind_request before me (operation_ref class op)) 1 (activated class me op place wanted) (Act me (operation_ref class op)) (entry Main me (deed.Act (operation_ref class op))) (λ a taken is. is)
+        (record { ready = (born-there spec (behind_request before me (operation_ref class op)) me class callee-requested.stands, act-waits before me (operation_ref class op) is_at.here.sane); sane = callee-requested.sane })
         safe-activated
 
-    safe-call_of : IsSafe spec tree left (Some 3) first before (call_of class me op place wanted)
+    safe-call_of : IsSafe spec left (Some 3) first before (call_of class me op place wanted)
     safe-call_of =
-        safe-ask spec tree left first before 2 (λ a. ask (Act me (operation_ref class op)) (activated class me op place wanted)) (Req me (operation_ref class op)) (entry Main me (deed.Req (operation_ref class op))) (λ a taken is. is)
-        (record { ready = born-there spec before me class born; sane = is_at.here.sane; numbers = tt })
+        safe-ask spec left first before 2 (λ a. ask (Act me (operation_ref class op)) (activated class me op place wanted)) (Req me (operation_ref class op)) (entry Main me (deed.Req (operation_ref class op))) (λ a taken is. is)
+        (record { ready = born-there spec before me class born; sane = is_at.here.sane })
         safe-requested
 
-  safe-call_found : (before : List Entry) (env : Env) (class : ClassTree) (me : ℕ) (found : Option OperationTree) (place : Place) (wanted : Wanted) → IsAt spec first before env → IsBorn spec before me class → IsSafe spec tree left (Some 3) first before (call_found class me found place wanted)
-  safe-call_found before env class me None place wanted is_at born = may-fail spec tree before env TypeFault place is_at.here
+  safe-call_found : (before : List Entry) (env : Env) (class : ClassTree) (me : ℕ) (found : Option OperationTree) (place : Place) (wanted : Wanted) → IsAt spec first before env → IsBorn spec before me class → IsSafe spec left (Some 3) first before (call_found class me found place wanted)
+  safe-call_found before env class me None place wanted is_at born = may-fail spec before env TypeFault place is_at.here
   safe-call_found before env class me (Some op) place wanted is_at born = safe-call_of before env is_at class me op place wanted born
 
-  safe-call_on_class : (before : List Entry) (env : Env) (found : Option ClassTree) (me : ℕ) (name : Name) (place : Place) (wanted : Wanted) → IsAt spec first before env → ((class : ClassTree) → found ≡ Some class → IsBorn spec before me class) → IsSafe spec tree left (Some 3) first before (call_on_class found me name place wanted)
-  safe-call_on_class before env None me name place wanted is_at born = may-fail spec tree before env TypeFault place is_at.here
+  safe-call_on_class : (before : List Entry) (env : Env) (found : Option ClassTree) (me : ℕ) (name : Name) (place : Place) (wanted : Wanted) → IsAt spec first before env → ((class : ClassTree) → found ≡ Some class → IsBorn spec before me class) → IsSafe spec left (Some 3) first before (call_on_class found me name place wanted)
+  safe-call_on_class before env None me name place wanted is_at born = may-fail spec before env TypeFault place is_at.here
   safe-call_on_class before env (Some class) me name place wanted is_at born = safe-call_found before env class me (operation_named class name) place wanted is_at (born class refl)
 
-  safe-call_on : (before : List Entry) (env : Env) (name : Name) (place : Place) (wanted : Wanted) (v : ValueTree) → IsAt spec first before env → IsKnown spec before v → IsSafe spec tree left (Some 3) first before (call_on spec name place wanted v)
+  safe-call_on : (before : List Entry) (env : Env) (name : Name) (place : Place) (wanted : Wanted) (v : ValueTree) → IsAt spec first before env → IsKnown spec before v → IsSafe spec left (Some 3) first before (call_on spec name place wanted v)
   safe-call_on before env name place wanted (object n class) is_at known =
       safe-call_on_class before env (class_named spec class) n name place wanted is_at (λ found e.
       let itself = known.2.known in
       let same : class ≡ known.0.name = known.1 in
       let which : known.0 ≡ found = cc (ap (class_named spec) same) in
       subst (IsBorn spec before n) which known.2)
-  safe-call_on before env name place wanted _ is_at known = may-fail spec tree before env TypeFault place is_at.here
+  safe-call_on before env name place wanted _ is_at known = may-fail spec before env TypeFault place is_at.here
 
-  pub safe-call_plan : (before : List Entry) (env : Env) (head : ExprTree) (arguments : ExprTrees) (place : Place) (wanted : Wanted) → IsAt spec first before env → IsSafe spec tree left (Some 3) first before (call_plan spec env head arguments place wanted)
+  pub safe-call_plan : (before : List Entry) (env : Env) (head : ExprTree) (arguments : ExprTrees) (place : Place) (wanted : Wanted) → IsAt spec first before env → IsSafe spec left (Some 3) first before (call_plan spec env head arguments place wanted)
   safe-call_plan before (inside me class) (named name name_place) no_exprs place wanted is_at = safe-call_found before (inside me class) class me (operation_named class name) place wanted is_at is_at.here.stands
   safe-call_plan before env (select target name name_place dot) no_exprs place wanted is_at =
-      safe-expression spec tree left (Some 3) first before env target place (call_on spec name place wanted) is_at (λ later v at_then known. safe-call_on later env name place wanted v at_then known)
-  safe-call_plan before env _ _ place wanted is_at = may-fail spec tree before env TypeFault place is_at.here
+      safe-expression spec left (Some 3) first before env target place (call_on spec name place wanted) is_at (λ later v at_then known. safe-call_on later env name place wanted v at_then known)
+  safe-call_plan before env _ _ place wanted is_at = may-fail spec before env TypeFault place is_at.here

@@ -18,13 +18,13 @@ use Rattle.run_journal.specs.Made.{entry}
 use Rattle.run_journal.specs.Parts.{is_on, object_part}
 use Rattle.plans.specs.Plans.{finish, ask, part}
 use Rattle.vdm_legal.specs.ClassObjects.{classes_of}
-use Rattle.vdm_meaning.specs.Main.{GivesNoObject, end_slot, end_with, whole_expression, make_class_objects, main_plan}
+use Rattle.vdm_meaning.specs.Main.{end_slot, end_with, whole_expression, make_class_objects, main_plan}
 use Rattle.vdm_legal.specs.Finishes.{finish_of}
 use Rattle.vdm_meaning.specs.Tasks.{outside, Flow, Code}
 use Rattle.vdm_meaning.proofs.Asking.{safe-ask}
 use Rattle.vdm_legal.proofs.Journals.{undecided-parts}
 use Rattle.vdm_meaning.proofs.Parts.{IsAt, at-later}
-use Rattle.vdm_meaning.proofs.Rules.{GivesNumber, MayRun, MayBegin, MayLeave, IsSafe}
+use Rattle.vdm_meaning.proofs.Rules.{MayRun, MayBegin, MayLeave, IsSafe}
 use Rattle.vdm_legal.proofs.Sanity.{IsSane, IsQuiet, sane-start, within-then, quiet-sane, quiet-within}
 
 -- the run is finished, whatever came of main
@@ -60,32 +60,31 @@ module _ (spec : SpecTree) where
   whole-begins (apply head arguments place) before h = h
   whole-begins _ before h = h
 
-  whole-leaves : (tree : ExprTree) (entries : List Entry) (flow : Flow) → MayLeave spec (whole_expression tree) entries flow → IsSane entries × (GivesNoObject tree → GivesNumber flow)
-  whole-leaves (apply head arguments place) entries flow h = (h.0, λ no_object. h.1)
-  whole-leaves _ entries flow h = (h.0, h.2)
+  whole-leaves : (tree : ExprTree) (entries : List Entry) (flow : Flow) → MayLeave spec (whole_expression tree) entries flow → IsSane entries
+  whole-leaves (apply head arguments place) entries flow h = h.0
+  whole-leaves _ entries flow h = h.0
 
   module _ (tree : ExprTree) where
-    safe-end_with : (before : List Entry) (flow : Flow) → IsAt spec [] before outside → (GivesNoObject tree → GivesNumber flow) → IsSafe spec tree LeavesAnEnd (Some 1) [] before (end_with flow)
-    safe-end_with before flow is_at h =
-        safe-ask spec tree LeavesAnEnd [] before 0 (λ a. finish flow) (End (end_slot flow)) (entry Main 0 (deed.End (end_slot flow))) (λ a taken is. is)
-        (record { ready = is_at.here.main; sane = is_at.here.sane; numbers = h }) (
+    safe-end_with : (before : List Entry) (flow : Flow) → IsAt spec [] before outside → IsSafe spec LeavesAnEnd (Some 1) [] before (end_with flow)
+    safe-end_with before flow is_at =
+        safe-ask spec LeavesAnEnd [] before 0 (λ a. finish flow) (End (end_slot flow)) (entry Main 0 (deed.End (end_slot flow))) (λ a taken is. is)
+        (record { ready = is_at.here.main; sane = is_at.here.sane }) (
           within-then [] before _ is_at.within (quiet-within before 0 (deed.End (end_slot flow)) (end-quiet (end_slot flow))),
           λ none.
               let last = (undecided-parts before (entry Main 0 (deed.End (end_slot flow)) ∷ []) none).1 in
               cc,
         )
 
-    safe-class : (n : ℕ) (before : List Entry) (object : ℕ) (class : Name) (further : Answer → Code) → IsSane before → object_part object before ≡ [] → slice_get (classes_of spec) object ≡ Some class → IsSafe spec tree LeavesAnEnd (Some n) [] (behind_class before object class) (further Done) → IsSafe spec tree LeavesAnEnd (Some (suc n)) [] before (ask (Class object class []) further)
+    safe-class : (n : ℕ) (before : List Entry) (object : ℕ) (class : Name) (further : Answer → Code) → IsSane before → object_part object before ≡ [] → slice_get (classes_of spec) object ≡ Some class → IsSafe spec LeavesAnEnd (Some n) [] (behind_class before object class) (further Done) → IsSafe spec LeavesAnEnd (Some (suc n)) [] before (ask (Class object class []) further)
     safe-class n before object class further sane fresh is h =
-        safe-ask spec tree LeavesAnEnd [] before n further (Class object class []) (entry Main object (deed.Class class [])) (λ a taken is. is)
-        (record { ready = (fresh, is); sane = sane; numbers = tt }) h
+        safe-ask spec LeavesAnEnd [] before n further (Class object class []) (entry Main object (deed.Class class [])) (λ a taken is. is)
+        (record { ready = (fresh, is); sane = sane }) h
 
-    safe-classes : (before : List Entry) (object : ℕ) (done classes : List Name) → classes_of spec ≡ done ++ classes → object ≡ length done → IsAt spec [] before outside → IsFreeFrom before object → IsSafe spec tree LeavesAnEnd (Some (suc (length classes))) [] before (make_class_objects object classes (part (whole_expression tree) end_with))
+    safe-classes : (before : List Entry) (object : ℕ) (done classes : List Name) → classes_of spec ≡ done ++ classes → object ≡ length done → IsAt spec [] before outside → IsFreeFrom before object → IsSafe spec LeavesAnEnd (Some (suc (length classes))) [] before (make_class_objects object classes (part (whole_expression tree) end_with))
     safe-classes before object done [] all number is_at free = (
       whole-begins tree before is_at.here,
       λ later flow within leaves.
-          let left = whole-leaves tree later flow leaves in
-          safe-end_with later flow (at-later spec [] before later outside is_at within left.0) left.1,
+          safe-end_with later flow (at-later spec [] before later outside is_at within (whole-leaves tree later flow leaves)),
     )
     safe-classes before object done (class ∷ classes) all number is_at free =
         let is : slice_get (classes_of spec) object ≡ Some class = ap (slice_get (classes_of spec)) number ∙ ap (λ cs. slice_get cs (length done)) all ∙ seam done classes class in
@@ -99,7 +98,7 @@ module _ (spec : SpecTree) where
     first-run = record { sane = quiet-sane [] 0 (deed.Class io []) (class-quiet io) sane-start tt refl; main = λ none. cc; stands = tt }
 
     -- the code of main keeps the rules of journals, and asks for each class object and to end, beside what its tasks ask
-    pub safe-main : IsSafe spec tree LeavesAnEnd (Some (suc (length (classes_of spec)))) [] [] (main_plan spec tree)
+    pub safe-main : IsSafe spec LeavesAnEnd (Some (suc (length (classes_of spec)))) [] [] (main_plan spec tree)
     safe-main =
         safe-class (suc (length (class_names spec))) [] 0 io (λ a. make_class_objects 1 (class_names spec) (part (whole_expression tree) end_with)) sane-start refl refl
         (safe-classes (behind_class [] 0 io) 1 (io ∷ []) (class_names spec) refl refl

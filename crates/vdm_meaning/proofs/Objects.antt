@@ -52,7 +52,7 @@ new-quiet class slots = λ name. (refl, refl, refl)
 length-more : (slots : List Slot) (slot : Slot) (rest all : ℕ) → length slots + suc rest ≡ all → length (slots ++ slot ∷ []) + rest ≡ all
 length-more slots slot rest all e = omega (arith, e, length-append slots (slot ∷ []))
 
-module _ (spec : SpecTree) (tree : ExprTree) (left : List Entry → Flow → Type 0) (first : List Entry) where
+module _ (spec : SpecTree) (left : List Entry → Flow → Type 0) (first : List Entry) where
   module _ (class : ClassTree) (known : class_named spec class.name ≡ Some class) (place : Place) (from_object : (entries : List Entry) (o : ℕ) → IsSane entries → IsBorn spec entries o class → left entries (gave (Held (object o class.name)))) where
     born-new : (before : List Entry) (o : ℕ) (slots : List Slot) → object_part o before ≡ [] → length slots ≡ length (class_variables class) → IsBorn spec (before ++ entry Main o (deed.New class.name slots) ∷ []) o class
     born-new before o slots fresh whole = record {
@@ -67,26 +67,26 @@ module _ (spec : SpecTree) (tree : ExprTree) (left : List Entry → Flow → Typ
       whole = whole;
     }
 
-    safe-make_object : (before : List Entry) (slots : List Slot) → IsAt spec first before outside → length slots ≡ length (class_variables class) → IsSafe spec tree left (Some 3) first before (make_object class place slots)
-    safe-make_object before slots is_at whole = safe-if spec tree left (Some 3) first before (all_fit (class_variables class) slots) _ _ (λ fit.
+    safe-make_object : (before : List Entry) (slots : List Slot) → IsAt spec first before outside → length slots ≡ length (class_variables class) → IsSafe spec left (Some 3) first before (make_object class place slots)
+    safe-make_object before slots is_at whole = safe-if spec left (Some 3) first before (all_fit (class_variables class) slots) _ _ (λ fit.
         let numbers = fitting-slots (class_variables class) slots whole fit in
-        safe-New spec tree left first before 2 (created class.name place) class.name slots
-        (record { ready = tt; sane = is_at.here.sane; numbers = numbers }) (λ o fresh.
+        safe-New spec left first before 2 (created class.name place) class.name slots
+        (record { ready = tt; sane = is_at.here.sane }) (λ o fresh.
         let sane = quiet-sane before o (deed.New class.name slots) (new-quiet class.name slots) is_at.here.sane numbers refl in
         let within = quiet-within before o (deed.New class.name slots) (new-quiet class.name slots) in
         (within-then first before _ is_at.within within, from_object _ o sane (born-new before o slots fresh whole))))
-        (may-fail spec tree before outside TypeFault place is_at.here)
+        (may-fail spec before outside TypeFault place is_at.here)
 
-    safe-initial : (before : List Entry) (initial : Option ExprTree) (rest : List Slot → Code) (slots : List Slot) → IsAt spec first before outside → ((later : List Entry) (slot : Slot) → IsAt spec first later outside → IsSafe spec tree left (Some 3) first later (rest (slots ++ slot ∷ []))) → IsSafe spec tree left (Some 3) first before (initial_then initial place rest slots)
+    safe-initial : (before : List Entry) (initial : Option ExprTree) (rest : List Slot → Code) (slots : List Slot) → IsAt spec first before outside → ((later : List Entry) (slot : Slot) → IsAt spec first later outside → IsSafe spec left (Some 3) first later (rest (slots ++ slot ∷ []))) → IsSafe spec left (Some 3) first before (initial_then initial place rest slots)
     safe-initial before None rest slots is_at h = h before Unset is_at
-    safe-initial before (Some initial) rest slots is_at h = safe-expression spec tree left (Some 3) first before outside initial place (with_slot rest slots) is_at (λ later v at_then v_known. h later (Held v) at_then)
+    safe-initial before (Some initial) rest slots is_at h = safe-expression spec left (Some 3) first before outside initial place (with_slot rest slots) is_at (λ later v at_then v_known. h later (Held v) at_then)
 
-    safe-initialise : (before : List Entry) (variables : List VariableTree) (slots : List Slot) → IsAt spec first before outside → length slots + length variables ≡ length (class_variables class) → IsSafe spec tree left (Some 3) first before (initialise class place variables slots)
+    safe-initialise : (before : List Entry) (variables : List VariableTree) (slots : List Slot) → IsAt spec first before outside → length slots + length variables ≡ length (class_variables class) → IsSafe spec left (Some 3) first before (initialise class place variables slots)
     safe-initialise before [] slots is_at e = safe-make_object before slots is_at (omega (arith, e))
     safe-initialise before (var ∷ variables) slots is_at e =
         safe-initial before var.initial (initialise class place variables) slots is_at (λ later slot at_then.
         safe-initialise later variables (slots ++ slot ∷ []) at_then (length-more slots slot (length variables) (length (class_variables class)) e))
 
-  pub safe-new_of : (before : List Entry) (found : Option ClassTree) (arguments : ExprTrees) (place : Place) → IsAt spec first before outside → ((class : ClassTree) → found ≡ Some class → class_named spec class.name ≡ Some class) → ((class : ClassTree) (entries : List Entry) (o : ℕ) → IsSane entries → IsBorn spec entries o class → left entries (gave (Held (object o class.name)))) → IsSafe spec tree left (Some 3) first before (new_of found arguments place)
+  pub safe-new_of : (before : List Entry) (found : Option ClassTree) (arguments : ExprTrees) (place : Place) → IsAt spec first before outside → ((class : ClassTree) → found ≡ Some class → class_named spec class.name ≡ Some class) → ((class : ClassTree) (entries : List Entry) (o : ℕ) → IsSane entries → IsBorn spec entries o class → left entries (gave (Held (object o class.name)))) → IsSafe spec left (Some 3) first before (new_of found arguments place)
   safe-new_of before (Some class) no_exprs place is_at known from_object = safe-initialise class (known class refl) place (from_object class) before (class_variables class) [] is_at (omega arith)
-  safe-new_of before _ _ place is_at known from_object = may-fail spec tree before outside Undefined place is_at.here
+  safe-new_of before _ _ place is_at known from_object = may-fail spec before outside Undefined place is_at.here

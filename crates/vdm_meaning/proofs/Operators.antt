@@ -5,7 +5,7 @@ use Rattle.vdm_kinds.specs.declared.operator.Operator.{Operator}
 use Rattle.vdm_kinds.specs.declared.operator.Operator.TheVariants.{Plus}
 use Rattle.vdm_kinds.specs.declared.run_fault.RunFault.TheVariants.{Overflow}
 use Rattle.abstract_syntax.specs.Values.{ValueTree, number}
-use Rattle.run_journal.specs.Numbers.{IsNumber}
+use Rattle.vdm_legal.proofs.Numbers.{IsNumber}
 use Rattle.vdm_meaning.specs.Operators.{is_number, in_range, sum_of, applied}
 
 in_range-number : (z : ℤ) → IfOk (in_range z) IsNumber

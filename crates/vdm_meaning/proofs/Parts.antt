@@ -9,7 +9,7 @@ use Rattle.abstract_syntax.specs.Values.{ValueTree, number}
 use Rattle.abstract_syntax.specs.Expressions.{ExprTree}
 use Rattle.abstract_syntax.specs.Classes.{SpecTree}
 use Rattle.run_journal.specs.declared.entry.Entry.{Entry}
-use Rattle.run_journal.specs.Numbers.{IsNumber}
+use Rattle.vdm_legal.proofs.Numbers.{IsNumber}
 use Rattle.plans.specs.Plans.{part}
 use Rattle.vdm_meaning.specs.Faults.{fault_at}
 use Rattle.vdm_meaning.specs.Tasks.{Env, outside, inside, expr_in, Flow, gave, next, returned, Code, with_value}
@@ -41,8 +41,8 @@ at-later spec first now later env at w sane = record { within = within-then firs
 -- ---- faults
 
 -- a fault that is no exit may be failed with wherever tasks are done
-pub may-fail : (spec : SpecTree) (tree : ExprTree) (now : List Entry) (env : Env) (fault : RunFault) (place : Place) → MayRun spec now env → MayFail spec tree now (fault_at fault place)
-may-fail spec tree now env fault place h = record { ready = h.main; sane = h.sane; numbers = tt }
+pub may-fail : (spec : SpecTree) (now : List Entry) (env : Env) (fault : RunFault) (place : Place) → MayRun spec now env → MayFail spec now (fault_at fault place)
+may-fail spec now env fault place h = record { ready = h.main; sane = h.sane }
 
 -- ---- values
 
@@ -54,22 +54,22 @@ pub gives-known : (spec : SpecTree) (entries : List Entry) (flow : Flow) → Giv
 gives-known spec entries (gave (Held v)) h = known-number spec entries v h
 gives-known spec entries _ h = tt
 
-module _ (spec : SpecTree) (tree : ExprTree) (left : List Entry → Flow → Type 0) (n : Option ℕ) (first now : List Entry) where
-  pub safe-if : (b : Bool) (p q : Code) → (b ≡ true → IsSafe spec tree left n first now p) → IsSafe spec tree left n first now q → IsSafe spec tree left n first now (if b then p else q)
+module _ (spec : SpecTree) (left : List Entry → Flow → Type 0) (n : Option ℕ) (first now : List Entry) where
+  pub safe-if : (b : Bool) (p q : Code) → (b ≡ true → IsSafe spec left n first now p) → IsSafe spec left n first now q → IsSafe spec left n first now (if b then p else q)
   safe-if true p q h k = h refl
   safe-if false p q h k = k
 
-  safe-with_value : (env : Env) (place : Place) (further : ValueTree → Code) (flow : Flow) → MayRun spec now env → GivesKnown spec now flow → ((v : ValueTree) → IsKnown spec now v → IsSafe spec tree left n first now (further v)) → IsSafe spec tree left n first now (with_value place further flow)
+  safe-with_value : (env : Env) (place : Place) (further : ValueTree → Code) (flow : Flow) → MayRun spec now env → GivesKnown spec now flow → ((v : ValueTree) → IsKnown spec now v → IsSafe spec left n first now (further v)) → IsSafe spec left n first now (with_value place further flow)
   safe-with_value env place further (gave (Held v)) here known h = h v known
-  safe-with_value env place further (gave Unset) here known h = may-fail spec tree now env Undefined place here
-  safe-with_value env place further next here known h = may-fail spec tree now env Undefined place here
-  safe-with_value env place further (returned slot) here known h = may-fail spec tree now env Undefined place here
+  safe-with_value env place further (gave Unset) here known h = may-fail spec now env Undefined place here
+  safe-with_value env place further next here known h = may-fail spec now env Undefined place here
+  safe-with_value env place further (returned slot) here known h = may-fail spec now env Undefined place here
 
 -- a part that is an expression, and what is done with its value
-pub safe-expression : (spec : SpecTree) (tree : ExprTree) (left : List Entry → Flow → Type 0) (n : Option ℕ) (first now : List Entry) (env : Env) (e : ExprTree) (place : Place) (further : ValueTree → Code) → IsAt spec first now env → ((later : List Entry) (v : ValueTree) → IsAt spec first later env → IsKnown spec later v → IsSafe spec tree left n first later (further v)) → IsSafe spec tree left n first now (part (expr_in env e) (with_value place further))
-safe-expression spec tree left n first now env e place further is_at h = (
+pub safe-expression : (spec : SpecTree) (left : List Entry → Flow → Type 0) (n : Option ℕ) (first now : List Entry) (env : Env) (e : ExprTree) (place : Place) (further : ValueTree → Code) → IsAt spec first now env → ((later : List Entry) (v : ValueTree) → IsAt spec first later env → IsKnown spec later v → IsSafe spec left n first later (further v)) → IsSafe spec left n first now (part (expr_in env e) (with_value place further))
+safe-expression spec left n first now env e place further is_at h = (
   is_at.here,
   λ later flow w leaves.
       let then_at = at-later spec first now later env is_at w leaves.0 in
-      safe-with_value spec tree left n first later env place further flow then_at.here leaves.1 (λ v known. h later v then_at known),
+      safe-with_value spec left n first later env place further flow then_at.here leaves.1 (λ v known. h later v then_at known),
 )

@@ -1,20 +1,18 @@
 -- The rules of journals: which question may be asked behind a list of entries, which task begun, what a task may leave, and what it may fail with.
 use Rattle.std.proofs.Common.{◌≡◌, ◌≢◌, List, [], ◌∷◌, ◌++◌, Some}
-use Rattle.std.specs.List.{AllByRecursion as Each}
 use Rattle.std.specs.Prelude.{ℕ, Option}
 use Rattle.vdm_values.specs.declared.slot.Slot.TheVariants.{Held}
 use Rattle.abstract_syntax.specs.Values.{ValueTree, number, object}
-use Rattle.abstract_syntax.specs.Expressions.{ExprTree}
 use Rattle.abstract_syntax.specs.Classes.{ClassTree, SpecTree}
 use Rattle.run_journal.specs.declared.answer.Answer.{Answer}
 use Rattle.run_journal.specs.declared.entry.Entry.{Entry}
 use Rattle.run_journal.specs.declared.question.Question.{Question}
-use Rattle.run_journal.specs.declared.question.Question.TheVariants.{Class, New, Write, End, Fail}
-use Rattle.run_journal.specs.Numbers.{IsNumberSlot, IsNumberPair}
+use Rattle.run_journal.specs.declared.question.Question.TheVariants.{Fail}
+use Rattle.vdm_legal.proofs.Numbers.{IsNumberSlot}
 use Rattle.run_journal.specs.Parts.{object_part}
 use Rattle.plans.specs.Steps.{Rules, Safe}
 use Rattle.vdm_meaning.specs.Faults.{Fault}
-use Rattle.vdm_meaning.specs.Main.{GivesNoObject, end_slot}
+use Rattle.vdm_meaning.specs.Main.{end_slot}
 use Rattle.vdm_legal.specs.Ready.{IsReady}
 use Rattle.vdm_meaning.specs.Tasks.{Env, outside, inside, Task, expr_in, call_in, stmt_in, Flow, gave, Code}
 use Rattle.vdm_legal.proofs.Births.{IsBorn}
@@ -23,23 +21,13 @@ use Rattle.vdm_legal.proofs.Taken.{IsEntryFor}
 
 -- ---- questions and faults
 
--- the question gives numbers alone; main may end with an object where its expression is one
-abbrev pub AsksNumbers : ExprTree → Question → Type 0
-AsksNumbers tree (Class o class slots) = Each IsNumberSlot slots
-AsksNumbers tree (New class slots) = Each IsNumberSlot slots
-AsksNumbers tree (Write o pairs) = Each IsNumberPair pairs
-AsksNumbers tree (End slot) = GivesNoObject tree → IsNumberSlot slot
-AsksNumbers tree (Fail fault exit place) = IsNumberSlot exit
-AsksNumbers tree _ = Unit {0}
-
-pub record MayAsk (spec : SpecTree) (tree : ExprTree) (before : List Entry) (q : Question) : Type 0 where
+pub record MayAsk (spec : SpecTree) (before : List Entry) (q : Question) : Type 0 where
   pub ready : IsReady spec before q
   pub sane : IsSane before
-  pub numbers : AsksNumbers tree q
 
 -- main may ask to fail with it
-abbrev pub MayFail : SpecTree → ExprTree → List Entry → Fault → Type 0
-MayFail spec tree before f = MayAsk spec tree before (Fail f.fault f.exit f.place)
+abbrev pub MayFail : SpecTree → List Entry → Fault → Type 0
+MayFail spec before f = MayAsk spec before (Fail f.fault f.exit f.place)
 
 -- main's legal entry for the question and the answer goes last
 pub record IsTaken (spec : SpecTree) (before : List Entry) (q : Question) (a : Answer) (after : List Entry) : Type 0 where
@@ -82,24 +70,24 @@ abbrev pub GivesNumber : Flow → Type 0
 GivesNumber flow = IsNumberSlot (end_slot flow)
 
 abbrev pub MayLeave : SpecTree → Task → List Entry → Flow → Type 0
-MayLeave spec (expr_in env tree) entries flow = IsSane entries × GivesKnown spec entries flow × (GivesNoObject tree → GivesNumber flow)
+MayLeave spec (expr_in env tree) entries flow = IsSane entries × GivesKnown spec entries flow
 MayLeave spec (call_in env tree) entries flow = IsSane entries × GivesNumber flow
 MayLeave spec (stmt_in env tree) entries flow = IsSane entries
 
 -- ---- the rules
 
 -- a call asks three questions: for the call, for its activation, and to finish; and no task asks more of its own
-abbrev pub rules : SpecTree → ExprTree → Rules Task Flow Question Answer Fault (List Entry)
-rules spec tree = record {
+abbrev pub rules : SpecTree → Rules Task Flow Question Answer Fault (List Entry)
+rules spec = record {
   Takes = IsTaken spec;
-  Ready = MayAsk spec tree;
+  Ready = MayAsk spec;
   Fits = MayBegin spec;
   Within = IsWithin;
   Leaves = MayLeave spec;
-  Fails = MayFail spec tree;
+  Fails = MayFail spec;
   own = Some 3;
 }
 
 -- a plan that keeps the rules of journals behind the entries, with at most n questions of its own
-abbrev pub IsSafe : SpecTree → ExprTree → (List Entry → Flow → Type 0) → Option ℕ → List Entry → List Entry → Code → Type 0
-IsSafe spec tree left n first entries code = Safe (rules spec tree) left n first entries code
+abbrev pub IsSafe : SpecTree → (List Entry → Flow → Type 0) → Option ℕ → List Entry → List Entry → Code → Type 0
+IsSafe spec left n first entries code = Safe (rules spec) left n first entries code

@@ -73,7 +73,7 @@ main_outcome spec tree units bs = run (meaning (plan_of spec) spent) (main_plan 
 -- it is sound behind a run: main asks for each class object and to end, and its tasks three questions for each unit
 abbrev pub IsMainSound : SpecTree → ExprTree → ℕ → List Entry → Outcome Flow Question Answer Fault → Type 0
 IsMainSound spec tree units entries o =
-    SoundBy (rules spec tree) LeavesAnEnd (MayHaveAsked (Some 3) (Some (suc (length (classes_of spec)))) units) [] [] (steps_of [] entries) (main_outcome spec tree units) o
+    SoundBy (rules spec) LeavesAnEnd (MayHaveAsked (Some 3) (Some (suc (length (classes_of spec)))) units) [] [] (steps_of [] entries) (main_outcome spec tree units) o
 
 module _ (spec : SpecTree) (tree : ExprTree) (units : ℕ) where
   answers-steps : (before entries : List Entry) → AreLegal spec tree units before entries → main_answers before ++ answers (steps_of before entries) ≡ main_answers (before ++ entries)
@@ -96,11 +96,11 @@ module _ (spec : SpecTree) (tree : ExprTree) (units : ℕ) where
         last = refl;
       }
 
-  plays : (before entries : List Entry) → AreLegal spec tree units before entries → Plays (rules spec tree) (λ bs. main_outcome spec tree units (main_answers before ++ bs)) before (steps_of before entries)
+  plays : (before entries : List Entry) → AreLegal spec tree units before entries → Plays (rules spec) (λ bs. main_outcome spec tree units (main_answers before ++ bs)) before (steps_of before entries)
   plays before [] h = tt
   plays before (e ∷ entries) h = (
     λ q needed. taken-legal before e q h.0 (ap (main_outcome spec tree units) (sym (append-nil (main_answers before))) ∙ needed),
-    plays-same (rules spec tree) (λ bs. main_outcome spec tree units (main_answers (before ++ e ∷ []) ++ bs)) (λ bs. main_outcome spec tree units (main_answers before ++ answer_of e ∷ bs))
+    plays-same (rules spec) (λ bs. main_outcome spec tree units (main_answers (before ++ e ∷ []) ++ bs)) (λ bs. main_outcome spec tree units (main_answers before ++ answer_of e ∷ bs))
         (λ bs. ap (main_outcome spec tree units) (ap (λ front. front ++ bs) (main_answers-behind before [] e (legal-main spec tree units before e h.0)) ∙ append_assoc (main_answers before) (answer_of e ∷ []) bs))
         (before ++ e ∷ []) (steps_of (before ++ e ∷ []) entries) (plays (before ++ e ∷ []) entries h.1),
   )
@@ -112,4 +112,4 @@ module _ (spec : SpecTree) (tree : ExprTree) (units : ℕ) where
   pub run-sound : (entries : List Entry) → IsRun spec tree units entries → IsMainSound spec tree units entries (main_outcome spec tree units (main_answers entries))
   run-sound entries h =
       subst (λ bs. IsMainSound spec tree units entries (main_outcome spec tree units bs)) (run-answers entries h)
-      (sound (rules spec tree) (plan_of spec) spent (tasks-keep spec tree) (main_plan spec tree) LeavesAnEnd (Some (suc (length (classes_of spec)))) [] [] (safe-main spec tree) units (steps_of [] entries) (plays [] entries h))
+      (sound (rules spec) (plan_of spec) spent (tasks-keep spec) (main_plan spec tree) LeavesAnEnd (Some (suc (length (classes_of spec)))) [] [] (safe-main spec tree) units (steps_of [] entries) (plays [] entries h))

@@ -15,21 +15,21 @@ use Rattle.vdm_meaning.proofs.Parts.{at-start, may-fail}
 use Rattle.vdm_meaning.proofs.Rules.{MayRun, MayBegin, MayLeave, MayFail, rules, IsSafe}
 use Rattle.vdm_meaning.proofs.Statements.{safe-statement}
 
-module _ (spec : SpecTree) (tree : ExprTree) where
-  safe-bare_call : (env : Env) (e : ExprTree) (before : List Entry) → MayRun spec before env → IsSafe spec tree (MayLeave spec (call_in env e)) (Some 3) before before (bare_call spec env e)
+module _ (spec : SpecTree) where
+  safe-bare_call : (env : Env) (e : ExprTree) (before : List Entry) → MayRun spec before env → IsSafe spec (MayLeave spec (call_in env e)) (Some 3) before before (bare_call spec env e)
   safe-bare_call env (apply head arguments place) before h =
-      safe-call_plan spec tree (MayLeave spec (call_in env (apply head arguments place))) before (λ entries flow sane number. (sane, number)) before env head arguments place no_value (at-start spec before env h)
-  safe-bare_call env e before h = may-fail spec tree before env TypeFault (expr_place e) h
+      safe-call_plan spec (MayLeave spec (call_in env (apply head arguments place))) before (λ entries flow sane number. (sane, number)) before env head arguments place no_value (at-start spec before env h)
+  safe-bare_call env e before h = may-fail spec before env TypeFault (expr_place e) h
 
-  safe-task : (t : Task) (before : List Entry) → MayBegin spec before t → IsSafe spec tree (MayLeave spec t) (Some 3) before before (plan_of spec t)
-  safe-task (expr_in env e) before h = safe-expr spec tree env e before h
+  safe-task : (t : Task) (before : List Entry) → MayBegin spec before t → IsSafe spec (MayLeave spec t) (Some 3) before before (plan_of spec t)
+  safe-task (expr_in env e) before h = safe-expr spec env e before h
   safe-task (call_in env e) before h = safe-bare_call env e before h
-  safe-task (stmt_in env statement) before h = safe-statement spec tree before env statement before (at-start spec before env h)
+  safe-task (stmt_in env statement) before h = safe-statement spec before env statement before (at-start spec before env h)
 
-  spent-fails : (t : Task) (before : List Entry) → MayBegin spec before t → MayFail spec tree before (spent t)
-  spent-fails (expr_in env e) before h = may-fail spec tree before env StepLimit (expr_place e) h
-  spent-fails (call_in env e) before h = may-fail spec tree before env StepLimit (expr_place e) h
-  spent-fails (stmt_in env statement) before h = may-fail spec tree before env StepLimit (stmt_place statement) h
+  spent-fails : (t : Task) (before : List Entry) → MayBegin spec before t → MayFail spec before (spent t)
+  spent-fails (expr_in env e) before h = may-fail spec before env StepLimit (expr_place e) h
+  spent-fails (call_in env e) before h = may-fail spec before env StepLimit (expr_place e) h
+  spent-fails (stmt_in env statement) before h = may-fail spec before env StepLimit (stmt_place statement) h
 
-  pub tasks-keep : KeepRules (rules spec tree) (plan_of spec) spent
+  pub tasks-keep : KeepRules (rules spec) (plan_of spec) spent
   tasks-keep = record { plans = safe-task; stops = spent-fails }

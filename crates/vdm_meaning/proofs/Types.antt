@@ -7,7 +7,7 @@ use Rattle.abstract_syntax.specs.Values.{ValueTree, number}
 use Rattle.vdm_kinds.specs.declared.basic_type.BasicType.TheVariants.{Nat}
 use Rattle.abstract_syntax.specs.Types.{TypeTree, basic_type}
 use Rattle.abstract_syntax.specs.Classes.{VariableTree}
-use Rattle.run_journal.specs.Numbers.{IsNumber, IsNumberSlot}
+use Rattle.vdm_legal.proofs.Numbers.{IsNumber, IsNumberSlot}
 use Rattle.vdm_meaning.specs.Types.{fits, slot_fits, all_fit}
 
 pub fits-number : (declared : TypeTree) (v : ValueTree) → fits declared v ≡ true → IsNumber v

@@ -4,7 +4,7 @@ use Rattle.vdm_kinds.specs.declared.name.Name.{Name}
 use Rattle.vdm_values.specs.declared.slot.Slot.{Slot}
 use Rattle.vdm_values.specs.declared.slot.Slot.TheVariants.{Unset}
 use Rattle.abstract_syntax.specs.Classes.{SpecTree}
-use Rattle.abstract_syntax.specs.Expressions.{ExprTree, apply, create}
+use Rattle.abstract_syntax.specs.Expressions.{ExprTree, apply}
 use Rattle.run_journal.specs.declared.answer.Answer.{Answer}
 use Rattle.run_journal.specs.declared.question.Question.{Question}
 use Rattle.run_journal.specs.declared.question.Question.TheVariants.{Class, End, Fail}
@@ -32,11 +32,6 @@ end_with flow = ask (End (end_slot flow)) (λ _. finish flow)
 abbrev pub whole_expression : ExprTree → Task
 whole_expression (apply head arguments place) = call_in outside (apply head arguments place)
 whole_expression tree = expr_in outside tree
-
--- an expression whose value is no object
-abbrev pub GivesNoObject : ExprTree → Type 0
-GivesNoObject (create class class_place arguments place) = ⊥
-GivesNoObject _ = Unit {0}
 
 -- Class objects are made from this number on, and then `after` is done. So far no class has a static variable.
 abbrev pub make_class_objects : ℕ → List Name → Code → Code

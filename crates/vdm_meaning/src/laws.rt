@@ -17,9 +17,8 @@ ghost use Rattle.run_journal.specs.declared.question.Question.{Question};
 ghost use Rattle.run_journal.specs.declared.question.Question.TheVariants.{Class, End, Fail};
 ghost use Rattle.run_journal.specs.declared.thread.Thread.TheVariants.{Main};
 ghost use Rattle.run_journal.specs.Made.{answer_of};
-ghost use Rattle.run_journal.specs.Numbers.{HasNumbers};
 ghost use Rattle.run_journal.specs.Parts.{thread_part};
-ghost use Rattle.vdm_meaning.specs.Main.{GivesNoObject, asks, over, main_code};
+ghost use Rattle.vdm_meaning.specs.Main.{asks, over, main_code};
 ghost use Rattle.vdm_legal.specs.Order.{IsInOrder};
 ghost use Rattle.vdm_legal.specs.Ready.{IsReady};
 ghost use Rattle.vdm_legal.specs.Finishes.{finish_of};
@@ -84,14 +83,6 @@ pub fn a_finished_run_has_one_end()
 pub fn a_finished_run_exists()
     ensures { (spec : SpecTree) (tree : ExprTree) (units : ℕ)
         → (a : List Entry) × IsRun spec tree units a × IsInOrder spec a × IsSome (finish_of a) }
-{}
-
-/// Each value in a run is a number, where that of the whole expression is no object.
-pub fn runs_keep_numbers()
-    ensures { (spec : SpecTree) (tree : ExprTree) (units : ℕ) (entries : List Entry)
-        → GivesNoObject tree
-        → IsRun spec tree units entries
-        → Each (λ (entry : Entry). HasNumbers entry.deed) entries }
 {}
 
 /// What main asks for `1 + 1` and for a sum that is one too large, wherever their tokens stand, where the specification is
