@@ -11,9 +11,9 @@ use crate::patterns::pattern_parts;
 use crate::types::type_parts;
 use crate::visit::{finish, put_below, see, see_expr};
 use crate::walk::Walk;
+use expr_tree::{Expr, Pattern, TypeExpr};
 use std::alloc::Global;
 use vdm_kinds::OutOfMemory;
-use expr_tree::{Expr, Pattern, TypeExpr};
 
 /// How deep the expression is. No other failure than want of memory is told, nor is a depth of 2^64.
 #[tactic(auto, using(crate::proofs::Reaching::reach_first))]

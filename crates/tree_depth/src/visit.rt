@@ -16,8 +16,8 @@ use crate::parts::{
 use crate::patterns::{bind_parts, binds_parts, maplet_patterns_parts, pattern_parts};
 use crate::types::{type_parts, types_parts};
 use crate::walk::{Walk, one_below};
-use vdm_kinds::OutOfMemory;
 use expr_tree::{Expr, Pattern};
+use vdm_kinds::OutOfMemory;
 
 /// The parts come later, below so many nodes.
 #[tactic(auto, using(crate::proofs::Reaching::reach_both))]

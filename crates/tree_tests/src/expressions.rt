@@ -5,11 +5,11 @@ use crate::helpers::{at, one};
 use crate::listed::{round_item, round_list};
 use crate::operands::{leaf_of, round_one, round_pattern, round_three, round_two};
 use crate::quantified::{map_comprehension, round_bind, round_binds};
+use expr_tree::Expr;
 use std::alloc::Global;
 use std::test::Fail;
 use tree_depth::expr_depth;
 use vdm_kinds::OutOfMemory;
-use expr_tree::Expr;
 
 fn leaves(alloc: Global) -> Result<Vec<Expr>, OutOfMemory> {
     let mut trees = Vec::new(alloc);

@@ -1,8 +1,8 @@
 // Places, names and leaves that the tests share.
 
+use expr_tree::{Expr, Pattern};
 use std::alloc::Global;
 use vdm_kinds::{Name, OutOfMemory, Part, Place, TypeName};
-use expr_tree::{Expr, Pattern};
 
 /// A place of its own for each number.
 pub(crate) fn at(line: u32) -> Place {

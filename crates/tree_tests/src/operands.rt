@@ -1,9 +1,9 @@
 // Expressions with no expression in them; and those round one, two or three operands, or a pattern.
 
 use crate::helpers::{any_value, at, leaf, type_name};
+use expr_tree::{Expr, Literal, Pattern, TypeExpr};
 use std::alloc::Global;
 use vdm_kinds::{BasicType, Counter, Name, NameAt, OutOfMemory, Place, Sign};
-use expr_tree::{Expr, Literal, Pattern, TypeExpr};
 
 /// The leaves are of the kinds 0 to 9.
 pub(crate) fn leaf_of(kind: u32, names: Vec<NameAt>, place: Place) -> Expr {

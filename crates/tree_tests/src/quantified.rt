@@ -1,9 +1,9 @@
 // Expressions round binds.
 
 use crate::helpers::{at, leaf, one};
+use expr_tree::{Bind, Expr, Pattern};
 use std::alloc::Global;
 use vdm_kinds::{OutOfMemory, Place};
-use expr_tree::{Bind, Expr, Pattern};
 
 // A bind of one pattern, to the set.
 fn bind(alloc: Global, set: Box<Expr>) -> Result<Bind, OutOfMemory> {

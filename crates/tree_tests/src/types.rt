@@ -1,11 +1,11 @@
 // A type that has every kind, by the constructor functions: a product of all leaves, and each other kind round the one before.
 
 use crate::helpers::{at, one, type_name};
+use expr_tree::TypeExpr;
 use std::alloc::Global;
 use std::test::Fail;
 use tree_depth::type_depth;
 use vdm_kinds::{BasicType, Name, OutOfMemory, Place};
-use expr_tree::TypeExpr;
 
 // The leaves are of the kinds 0 to 2.
 fn leaf_of(kind: u32, place: Place) -> TypeExpr {
