@@ -10,7 +10,7 @@ by its two hexadecimal digits. Entries, questions and answers have `; ` between 
 
     name        a word of letters, digits and _; or #7, the name of number 7
     value       one of: nil, true, false, -5, 'a', char(0), <Red>, C#3 (object 3 of class C), mk_token(1), mk_(1, 2),
-                mk_C`T(1), [1, 2], {1, 2}, {1 |-> 2}, {|->}. A set and a map keep their parts as they are written
+                mk_C`T(1), [1, 2], {1, 2}, {1 |-> 2}, {|->}. A set and a map have their parts in order, however written
     slot        ?, which is unset, or a value
     thread      main, clock, t3 (of object 3) or r3.0 (a release of it, before which none came)
     entry       a thread, the number of an object, and a deed, as in main 2 read C`x = 1
@@ -59,7 +59,8 @@ These are the instructions:
     char N   quote NAME                a value: the character of this number, the quote of this name
     object N NAME                      a value: object N of this class
     token                              the token of the last value
-    tuple K   seq K   set K            of the last K values, in order
+    tuple K   seq K                    of the last K values, in their order
+    set K                              of the last K values, which it has in the canonical order, each once
     map K                              of the last K values, each of which is a tuple of a key and its value
     record NAME NAME K                 of the last K values; the names of its class and its own
     unset   held                       a slot: one without a value, one with the last value

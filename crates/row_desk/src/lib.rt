@@ -12,4 +12,4 @@ mod values;
 pub use desk::Desk;
 pub use said::{say_entries, say_made};
 pub use threads::thread_by;
-pub use values::{MOST_NAMES, pairs_of};
+pub use values::{MOST_NAMES, made_value, pairs_of};

@@ -1,10 +1,13 @@
 // Names and values in requests.
 
+ghost use Rattle.vdm_values.specs.Tree.{IsRising};
+
 use crate::desk::Desk;
 use row_words::Line;
 use std::mem;
-use vdm_kinds::Name;
-use vdm_values::{Node, Slot, Value};
+use vdm_kinds::{Halt, Name, RunFault};
+use vdm_sets::{map_from, set_from};
+use vdm_values::{Node, PairList, Slot, Value, ValueList};
 
 /// More names than any row has.
 pub const MOST_NAMES: usize = 1_000_000;
@@ -50,14 +53,18 @@ impl Desk {
 
     /// Makes the value that a word says.
     pub(crate) fn make(&mut self, word: &str, line: &mut Line<'_>) {
-        let node = match word {
-            "token" | "tuple" | "seq" | "set" | "map" | "record" => self.compound(word, line),
-            _ => self.leaf(word, line),
+        let value = match word {
+            "set" => self.set(line),
+            "map" => self.map(line),
+            "token" | "tuple" | "seq" | "record" => Value::new(self.compound(word, line)),
+            _ => Value::new(self.leaf(word, line)),
         };
-        line.put(&mut self.values, Value::new(node));
+        line.put(&mut self.values, value);
     }
 
-    fn leaf(&self, word: &str, line: &mut Line<'_>) -> Node {
+    fn leaf(&self, word: &str, line: &mut Line<'_>) -> Node
+        ensures { IsRising result }
+    {
         match word {
             "nil" => Node::Nil,
             "true" => Node::Bool(true),
@@ -76,13 +83,13 @@ impl Desk {
         }
     }
 
-    fn compound(&mut self, word: &str, line: &mut Line<'_>) -> Node {
+    fn compound(&mut self, word: &str, line: &mut Line<'_>) -> Node
+        ensures { IsRising result }
+    {
         match word {
             "token" => self.token(line),
             "tuple" => Node::Tuple(self.last_values(line)),
             "seq" => Node::Seq(self.last_values(line)),
-            "set" => Node::Set(self.last_values(line)),
-            "map" => self.map(line),
             _ => Node::Rec {
                 class: self.name(line),
                 name: self.name(line),
@@ -91,12 +98,22 @@ impl Desk {
         }
     }
 
-    fn map(&mut self, line: &mut Line<'_>) -> Node {
-        let tuples = self.last_values(line);
-        Node::Map(pairs_of(line, tuples))
+    fn set(&mut self, line: &mut Line<'_>) -> Value {
+        let items = ValueList::from_vec(self.last_values(line));
+        let made = set_from(line.alloc(), items);
+        made_value(line, made)
     }
 
-    fn token(&mut self, line: &mut Line<'_>) -> Node {
+    fn map(&mut self, line: &mut Line<'_>) -> Value {
+        let tuples = self.last_values(line);
+        let pairs = PairList::from_vec(pairs_of(line, tuples));
+        let made = map_from(line.alloc(), pairs);
+        made_value(line, made)
+    }
+
+    fn token(&mut self, line: &mut Line<'_>) -> Node
+        ensures { IsRising result }
+    {
         match Box::new(line.alloc(), self.value(line)) {
             Ok(value) => Node::Token(value),
             Err(_) => {
@@ -124,7 +141,20 @@ impl Desk {
     }
 }
 
-fn character(line: &mut Line<'_>) -> Node {
+/// The value that was made, or else nil, which stands for nothing.
+pub fn made_value(line: &mut Line<'_>, made: Result<Value, Halt<RunFault>>) -> Value {
+    match made {
+        Ok(value) => value,
+        Err(halt) => {
+            line.stop(halt);
+            Value::new(Node::Nil)
+        }
+    }
+}
+
+fn character(line: &mut Line<'_>) -> Node
+    ensures { IsRising result }
+{
     let number = line.number();
     Node::Char(line.found(char::from_u32(number), ' '))
 }

@@ -1,10 +1,11 @@
 // `list V ..`, `pairs V ..` of tuples of two, `slots S ..`: a list made, copied, compared and read. How many it has by `len`,
 // whether it is empty, equals its copy and equals the list of none, how many its slice has, and then what is in it.
 
-use row_desk::{Desk, pairs_of};
+use row_desk::{Desk, made_value, pairs_of};
 use row_words::Line;
 use std::mem;
 use vdm_kinds::OutOfMemory;
+use vdm_sets::map_from;
 use vdm_values::{Node, PairList, Slot, SlotList, Value, ValueList};
 
 pub(crate) fn answer(desk: &mut Desk, line: &mut Line<'_>, word: &str) {
@@ -35,7 +36,9 @@ fn pair_list(line: &mut Line<'_>, list: PairList) {
     say_copied(line, &list, list.copy(line.alloc()));
     say_none(line, list == PairList::from_vec(Vec::new(line.alloc())));
     say_slice(line, list.as_slice().len());
-    line.show(&Value::new(Node::Map(list.into_vec())));
+    let made = map_from(line.alloc(), list);
+    let map = made_value(line, made);
+    line.show(&map);
 }
 
 fn slot_list(line: &mut Line<'_>, list: SlotList) {

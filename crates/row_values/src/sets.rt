@@ -4,7 +4,7 @@
 
 use crate::insertion::rising_by_insertion;
 use crate::values::say_size;
-use row_desk::{Desk, pairs_of};
+use row_desk::{Desk, made_value, pairs_of};
 use row_words::Line;
 use vdm_kinds::{Halt, OutOfMemory, RunFault};
 use vdm_sets::{map_from, set_from};
@@ -58,8 +58,13 @@ fn inserted(line: &mut Line<'_>, items: ValueList) {
     );
     let plain = plain_of(line, copy.into_vec());
     line.say_count(plain.len());
-    let is_same = set_from(line.alloc(), items) == Ok(Value::new(Node::Set(plain)));
-    say_is_same(line, is_same);
+    let made = set_from(line.alloc(), items);
+    let set = made_value(line, made);
+    say_is_same(line, has_members(&set, &plain));
+}
+
+fn has_members(set: &Value, plain: &Vec<Value>) -> bool {
+    matches!(set.node(), Node::Set(members) if members == plain)
 }
 
 fn inserted_pairs(line: &mut Line<'_>, pairs: PairList) {
@@ -69,8 +74,13 @@ fn inserted_pairs(line: &mut Line<'_>, pairs: PairList) {
     );
     let plain = plain_of(line, copy.into_vec());
     line.say_count(plain.len());
-    let is_same = map_from(line.alloc(), pairs) == Ok(Value::new(Node::Map(plain)));
-    say_is_same(line, is_same);
+    let made = map_from(line.alloc(), pairs);
+    let map = made_value(line, made);
+    say_is_same(line, has_pairs(&map, &plain));
+}
+
+fn has_pairs(map: &Value, plain: &Vec<(Value, Value)>) -> bool {
+    matches!(map.node(), Node::Map(pairs) if pairs == plain)
 }
 
 fn plain_of<T: Ord + Drop>(line: &mut Line<'_>, items: Vec<T>) -> Vec<T> {

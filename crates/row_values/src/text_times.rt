@@ -3,6 +3,7 @@
 
 use crate::times::{nanoseconds, say_time};
 use log_printer::report_text;
+use row_desk::made_value;
 use row_words::Line;
 use run_journal::{Deed, Entry, EntryList, Thread};
 use std::rt::Clock;
@@ -10,7 +11,8 @@ use std::time::Instant;
 use value_text::text;
 use vdm_kinds::{Name, VarRef};
 use vdm_names::Names;
-use vdm_values::{Node, Slot, Value};
+use vdm_sets::set_from;
+use vdm_values::{Node, Slot, Value, ValueList};
 
 /// Says how long a text is, and how many nanoseconds it took.
 pub(crate) fn time_text<R: Clock>(rt: &R, line: &mut Line<'_>) {
@@ -30,7 +32,9 @@ fn time_kind<R: Clock>(rt: &R, line: &mut Line<'_>, names: &Names) {
 }
 
 fn time_set<R: Clock>(rt: &R, line: &mut Line<'_>, names: &Names) {
-    let set = Value::new(Node::Set(numbers(line)));
+    let items = ValueList::from_vec(numbers(line));
+    let made = set_from(line.alloc(), items);
+    let set = made_value(line, made);
     time_value(rt, line, &set, names);
 }
 

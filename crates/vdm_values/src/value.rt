@@ -1,7 +1,7 @@
 // A value, which clauses see as its tree.
 
 ghost use Rattle.std.specs.Prelude.{◌≡◌, IfOk, IsTrue, ◌↔◌};
-ghost use Rattle.vdm_values.specs.Tree.{tree_of};
+ghost use Rattle.vdm_values.specs.Tree.{tree_of, IsRising};
 
 use std::alloc::Global;
 use std::marker::Model;
@@ -47,20 +47,23 @@ impl Model for Value {
 
     ghost coded = { value_code };
 
-    ghost use Rattle.vdm_values.specs.Tree.{tree_of};
+    ghost use Rattle.vdm_values.specs.Tree.{tree_of, IsRising};
 
     ghost view = { λ v. tree_of v.node };
+
+    ghost invariant = { λ v. IsRising v.node };
 
     ghost size = { nodes_of };
 
     ghost use Rattle.vdm_values.specs.TreeFalls.{deep-tree_of};
 
-    ghost size_decreases = { λ a h. deep-tree_of a.node };
+    ghost size_decreases = { λ a _. deep-tree_of a.node };
 }
 
 impl Value {
     /// The value whose kind and parts are `node`.
     pub fn new(node: Node) -> Value
+        requires { IsRising node }
         ensures { result ≡ tree_of node }
     {
         Value { node }
@@ -68,14 +71,16 @@ impl Value {
 
     /// The kind and the parts.
     pub fn node(&self) -> &Node
-        ensures { self.now ≡ tree_of result.now }
+        ensures tree { self.now ≡ tree_of result.now }
+        ensures rises { IsRising result.now }
     {
         &self.node
     }
 
     /// The kind and the parts, taken out.
     pub fn into_node(self) -> Node
-        ensures { self ≡ tree_of result }
+        ensures tree { self ≡ tree_of result }
+        ensures rises { IsRising result }
     {
         self.node
     }

@@ -4,8 +4,8 @@ use Rattle.std.specs.List.Sorted.{IsStrictlySortedBy}
 use Rattle.abstract_syntax.specs.Values.{map_of, pair_trees}
 use Rattle.abstract_syntax.specs.Rising.{rising}
 use Rattle.abstract_syntax.proofs.RisingLaws.{rising_rises, rising_keeps}
-use Rattle.abstract_syntax.specs.ValueSets.{Entry, pair_order, HasConflict, IsWithinLimits, IsTooLarge}
-use Rattle.abstract_syntax.proofs.MapLaws.{pair_order_total, pair_same, conflict_moves}
+use Rattle.abstract_syntax.specs.ValueSets.{Entry, pair_order, key_order, HasConflict, IsWithinLimits, IsTooLarge}
+use Rattle.abstract_syntax.proofs.MapLaws.{pair_order_total, pair_same, conflict_moves, map_rises}
 use Rattle.vdm_sets.proofs.map.map_from.Goals as goal
 
 in_order : (xs ys : List Entry) → ys ≡ rising pair_order xs → IsStrictlySortedBy pair_order ys
@@ -26,6 +26,15 @@ returns-then-has_conflict-clause-refused c = λ fault e. inl (
   cc,
   in_given c.args.pairs _ (c.as_slice.ensures.value ∙ c.in_ok-pairs.ensures ∙ ap (rising pair_order) c.into_vec.ensures) (c.has_conflict.ensures.0 c.if-has_conflict.true),
 )
+
+-- where the list in order has no conflict, its keys rise
+rises_by_key : (xs ys : List Entry) → ys ≡ rising pair_order xs → (HasConflict ys → ⊥) → IsStrictlySortedBy key_order ys
+rises_by_key xs ys e f = subst (IsStrictlySortedBy key_order) (sym e) (map_rises xs (λ h. f (in_risen xs ys e h)))
+
+pub new-requires : goal.new-requires
+new-requires c =
+    rises_by_key c.args.pairs _ (c.in_ok-pairs.ensures ∙ ap (rising pair_order) c.into_vec.ensures)
+    (λ h. true≢false (sym (c.has_conflict.ensures.1 (subst HasConflict (sym c.as_slice.ensures.value) h)) ∙ c.if-has_conflict.false))
 
 pub returns-clause-made : goal.returns-clause-made
 returns-clause-made c =

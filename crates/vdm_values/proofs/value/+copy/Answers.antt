@@ -1,5 +1,6 @@
 use Rattle.std.proofs.Common.{arith}
 use Rattle.vdm_values.proofs.Parts.{nodes_of-item, nodes_of-pair}
+use Rattle.vdm_values.specs.Tree.{rising_as}
 use Rattle.vdm_values.proofs.value.+copy.Goals as goal
 
 pub copy_pairs-copy-requires : goal.copy_pairs-copy-requires
@@ -10,3 +11,6 @@ copy_pairs-copy-requires-in-loop-key t c = (omega (arith, nodes_of-pair _ _ _ c.
 
 pub copy_values-copy-requires : goal.copy_values-copy-requires
 copy_values-copy-requires t c = (omega (arith, nodes_of-item _ _ _ c.value-item.is c.loop-value-test.true), tt)
+
+pub Value::copy-invariant_of-result : goal.Value::copy-invariant_of-result
+Value::copy-invariant_of-result t c = rising_as _ _ c.in_ok-node.ensures c.self.invariant
