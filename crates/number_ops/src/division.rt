@@ -1,9 +1,9 @@
 // Division of numbers, in its three ways.
 
-ghost use Rattle.std.specs.Prelude.{◌≡◌};
+ghost use Rattle.std.specs.Prelude.{◌≡◌, ◌↔◌, ◌⊎◌, IsTrue, int_lt, pos};
 ghost use Rattle.value_operators.specs.Numbers.{by_divisor, quotient as quotient_of, remainder as remainder_of, modulus as modulus_of};
 
-use crate::number::number;
+use crate::number::{number, sum};
 use vdm_kinds::RunFault;
 use vdm_values::Value;
 
@@ -27,7 +27,7 @@ pub(crate) fn remainder(m: i128, n: i128) -> Result<Value, RunFault>
     if n == 0 {
         return Err(RunFault::DivideByZero);
     }
-    Ok(number(left_over(m, n)))
+    Ok(number(m.wrapping_rem(n)))
 }
 
 /// What the floor of the quotient leaves, with the divisor's sign.
@@ -37,17 +37,20 @@ pub(crate) fn modulus(m: i128, n: i128) -> Result<Value, RunFault>
     if n == 0 {
         return Err(RunFault::DivideByZero);
     }
-    let rest = left_over(m, n);
-    if rest == 0 || (rest < 0) == (n < 0) {
+    let rest = m.wrapping_rem(n);
+    if is_level(rest, n) {
         Ok(number(rest))
     } else {
-        Ok(number(rest + n))
+        sum(rest, n)
     }
 }
 
-// What is left of m: the quotient itself may lie outside.
-fn left_over(m: i128, n: i128) -> i128
-    ensures { result ≡ remainder_of m n }
+// Whether a rest is 0 or has the divisor's sign.
+fn is_level(rest: i128, n: i128) -> bool
+    ensures { IsTrue result ↔ (rest ≡ pos 0) ⊎ (int_lt rest (pos 0) ≡ int_lt n (pos 0)) }
 {
-    if n == -1 { 0 } else { m % n }
+    if rest == 0 {
+        return true;
+    }
+    (rest < 0) == (n < 0)
 }

@@ -66,7 +66,8 @@ fn absolute(m: i128) -> Result<Value, RunFault>
     }
 }
 
-fn sum(m: i128, n: i128) -> Result<Value, RunFault>
+/// The sum of two numbers.
+pub(crate) fn sum(m: i128, n: i128) -> Result<Value, RunFault>
     ensures { result ≡ in_range (m +ℤ n) }
 {
     match m.checked_add(n) {

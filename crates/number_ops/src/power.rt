@@ -1,7 +1,9 @@
 // Powers of numbers.
 
 ghost use Rattle.std.specs.Prelude.{◌≡◌};
-ghost use Rattle.value_operators.specs.Numbers.{power_of};
+ghost use Rattle.std.specs.Int.{int_pow};
+ghost use Rattle.value_operators.specs.Numbers.{power_of, in_range};
+ghost use Rattle.number_ops.specs.Exponents.{reduced};
 
 use crate::number::number;
 use vdm_kinds::RunFault;
@@ -14,20 +16,24 @@ pub(crate) fn power(m: i128, n: i128) -> Result<Value, RunFault>
     if n < 0 {
         return Err(RunFault::ExponentRange);
     }
-    match m {
-        0 => Ok(number(if n == 0 { 1 } else { 0 })),
-        1 => Ok(number(1)),
-        -1 => Ok(number(if n % 2 == 0 { 1 } else { -1 })),
-        _ => of_more(m, n),
+    raised(m, exponent(n.unsigned_abs()))
+}
+
+// Above 128 an exponent counts by its parity alone: the powers of -1, 0 and 1 are the same, and all others lie outside.
+fn exponent(n: u128) -> u32
+    ensures { result ≡ reduced n }
+{
+    if n <= 128 {
+        n as u32
+    } else {
+        128 + (n % 2) as u32
     }
 }
 
-// Of a number whose powers grow: above 127 all lie outside.
-fn of_more(m: i128, n: i128) -> Result<Value, RunFault> {
-    if n > 127 {
-        return Err(RunFault::Overflow);
-    }
-    match m.checked_pow(n as u32) {
+fn raised(m: i128, exponent: u32) -> Result<Value, RunFault>
+    ensures { result ≡ in_range (int_pow m exponent) }
+{
+    match m.checked_pow(exponent) {
         Some(power) => Ok(number(power)),
         None => Err(RunFault::Overflow),
     }

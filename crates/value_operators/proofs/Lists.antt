@@ -1,17 +1,17 @@
 -- Members of lists, by recursion, and lists that rise.
-use Rattle.std.proofs.Common.{◌≡◌, ◌↔◌, ◌⊎◌, Bool, true, false, not, cond, ◌||◌, ◌&&◌, List, [], ◌∷◌, ◌++◌, refl, ap, sym, ◌∙◌, subst, inl, inr, IsTrue, Contains, arith, true≢false}
+use Rattle.std.proofs.Common.{◌≡◌, ◌↔◌, ◌⊎◌, Bool, true, false, cond, ◌||◌, ◌&&◌, List, [], ◌∷◌, ◌++◌, refl, ap, sym, ◌∙◌, subst, inl, inr, IsTrue, Contains, true≢false}
 use Rattle.std.specs.declared.cmp.Ordering.{Ordering}
 use Rattle.std.specs.declared.cmp.Ordering.TheVariants.{Less, Equal}
 use Rattle.std.specs.Ordering.{ordering_then}
 use Rattle.std.specs.Cmp.{IsTotalOrder}
-use Rattle.std.specs.List.{filter, list_all, list_any, flat_map}
+use Rattle.std.specs.List.{filter, list_all}
 use Rattle.std.specs.List.Sorted.{IsStrictlySortedBy}
 use Rattle.std.proofs.lemmas.List.Kept.{IsStrictlySortedBy-filter}
 use Rattle.abstract_syntax.specs.Values.{ValueTree, set_of, map_of, value_trees, pair_trees}
 use Rattle.abstract_syntax.specs.ValueOrder.{value_order}
 use Rattle.abstract_syntax.specs.ValueOrderTotal.{value_order_total, same_from_order}
 use Rattle.abstract_syntax.specs.ValueCode.{value_code}
-use Rattle.abstract_syntax.specs.SameBy.{same_by, same_by-decides}
+use Rattle.abstract_syntax.specs.SameBy.{same_by-decides}
 use Rattle.abstract_syntax.specs.Rising.{rising}
 use Rattle.abstract_syntax.specs.ValueSets.{Entry, set_value, map_value, pair_order, key_order}
 use Rattle.abstract_syntax.proofs.RisingLaws.{In, in_from_contains, contains_from_in, all_at, all_from, rising_is, rising_rises, rising_keeps}

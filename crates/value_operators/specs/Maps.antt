@@ -1,5 +1,5 @@
 -- Maps: the rows of the table of operators, on lists of pairs.
-use Rattle.std.specs.Prelude.{Bool, true, false, not, ◌&&◌, if◌then◌else◌, List, [], ◌∷◌, ◌++◌, map, Ok, Err}
+use Rattle.std.specs.Prelude.{Bool, true, false, not, ◌&&◌, if◌then◌else◌, List, [], ◌++◌, map, Err}
 use Rattle.std.specs.Option.{unwrap_or}
 use Rattle.std.specs.List.{filter, list_any, list_all, flat_map}
 use Rattle.vdm_kinds.specs.declared.operator.Operator.{Operator}

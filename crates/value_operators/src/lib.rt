@@ -3,4 +3,4 @@
 
 mod laws;
 
-pub use laws::{membership_is_decided};
+pub use laws::membership_is_decided;
