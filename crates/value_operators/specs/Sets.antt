@@ -76,13 +76,22 @@ sets_one DistributedUnion = on_set_of_sets (λ sets. sized (union_of_all sets))
 sets_one DistributedInter = on_set_of_sets inter_of_all
 sets_one operator = numbers_one operator
 
+-- of two sets
+abbrev pub set_two : Operator → List ValueTree → List ValueTree → Outcome
+set_two Union vs ws = sized (union vs ws)
+set_two Inter vs ws = sized (inter vs ws)
+set_two Difference vs ws = sized (difference vs ws)
+set_two Subset vs ws = truth (is_subset vs ws)
+set_two ProperSubset vs ws = truth (is_proper_subset vs ws)
+set_two _ vs ws = Err TypeFault
+
 -- operators of two
 abbrev pub sets_two : Operator → ValueTree → ValueTree → Outcome
-sets_two Union = on_sets (λ vs ws. sized (union vs ws))
-sets_two Inter = on_sets (λ vs ws. sized (inter vs ws))
-sets_two Difference = on_sets (λ vs ws. sized (difference vs ws))
-sets_two Subset = on_sets (λ vs ws. truth (is_subset vs ws))
-sets_two ProperSubset = on_sets (λ vs ws. truth (is_proper_subset vs ws))
+sets_two Union = on_sets (set_two Union)
+sets_two Inter = on_sets (set_two Inter)
+sets_two Difference = on_sets (set_two Difference)
+sets_two Subset = on_sets (set_two Subset)
+sets_two ProperSubset = on_sets (set_two ProperSubset)
 sets_two InSet = λ a. on_set (λ ws. truth (has ws a))
 sets_two NotInSet = λ a. on_set (λ ws. truth (not (has ws a)))
 sets_two Interval = on_numbers (λ m n. sized (interval m n))

@@ -1,0 +1,11 @@
+//! The operators on numbers, Booleans and sets.
+#![tactic(auto)]
+
+mod comparison;
+mod distributed;
+mod intervals;
+mod joining;
+mod operand;
+mod powers;
+
+pub use operand::{binary, unary};
