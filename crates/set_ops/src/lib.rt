@@ -6,6 +6,7 @@ mod distributed;
 mod intervals;
 mod joining;
 mod operand;
+mod plain;
 mod powers;
 
 pub use operand::{binary, unary};

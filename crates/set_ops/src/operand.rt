@@ -63,12 +63,7 @@ pub fn binary(
     }
 }
 
-fn of_sets(
-    alloc: Global,
-    operator: Operator,
-    a: &Value,
-    b: &Value,
-) -> Result<Value, Halt<RunFault>>
+fn of_sets(alloc: Global, operator: Operator, a: &Value, b: &Value) -> Result<Value, Halt<RunFault>>
     ensures { Gives result (on_sets (set_two operator) a.now b.now) }
 {
     match (a.node(), b.node()) {

@@ -29,7 +29,7 @@ pub(crate) fn card(a: &Value) -> Result<Value, Halt<RunFault>>
     ensures { Gives result (on_set (λ vs. Ok (number (pos (length vs)))) a.now) }
 {
     match a.node() {
-        Node::Set(members) => Ok(Value::new(Node::Int(members.len() as i128))),
+        Node::Set(members) => Ok(Value::new(Node::Int(members.as_slice().len() as i128))),
         _ => Err(Halt::Of(RunFault::TypeFault)),
     }
 }

@@ -74,8 +74,16 @@ abbrev pub pairs_of : ValueTree → List Entry
 pairs_of (map_of ps) = pair_list ps
 pairs_of v = []
 
+-- of members that are maps, all of them
+abbrev pub of_all_maps : (List (List Entry) → Outcome) → List ValueTree → Outcome
+of_all_maps f vs = if list_all is_map vs then f (map pairs_of vs) else Err TypeFault
+
 abbrev pub on_set_of_maps : (List (List Entry) → Outcome) → ValueTree → Outcome
-on_set_of_maps f = on_set (λ vs. if list_all is_map vs then f (map pairs_of vs) else Err TypeFault)
+on_set_of_maps f = on_set (of_all_maps f)
+
+-- the pairs of all
+abbrev pub merged : List (List Entry) → Outcome
+merged maps = joined (flat_map (λ ps. ps) maps)
 
 -- ---- the rows
 
@@ -83,22 +91,30 @@ abbrev pub on_set_and_map : (List ValueTree → List Entry → Outcome) → Valu
 on_set_and_map f (set_of vs) (map_of ps) = f (value_list vs) (pair_list ps)
 on_set_and_map f a b = Err TypeFault
 
+-- of one map
+abbrev pub map_one : Operator → List Entry → Outcome
+map_one Domain ps = sized (set_value (keys ps))
+map_one Range ps = sized (set_value (values ps))
+map_one Inverse ps = joined (turned ps)
+map_one _ ps = Err TypeFault
+
 -- operators of one operand
 abbrev pub maps_one : Operator → ValueTree → Outcome
-maps_one Domain = on_map (λ ps. sized (set_value (keys ps)))
-maps_one Range = on_map (λ ps. sized (set_value (values ps)))
-maps_one Inverse = on_map (λ ps. joined (turned ps))
-maps_one Merge = on_set_of_maps (λ maps. joined (flat_map (λ ps. ps) maps))
-maps_one _ = λ a. Err TypeFault
+maps_one Merge = on_set_of_maps merged
+maps_one operator = on_map (map_one operator)
+
+-- of two maps
+abbrev pub map_two : Operator → List Entry → List Entry → Outcome
+map_two Override ps qs = sized (overridden ps qs)
+map_two MapUnion ps qs = joined (ps ++ qs)
+map_two Composition ps qs = composed ps qs
+map_two _ ps qs = Err TypeFault
 
 -- operators of two
 abbrev pub maps_two : Operator → ValueTree → ValueTree → Outcome
 maps_two LookUp = λ a b. on_map (λ ps. there (found ps b)) a
-maps_two Override = on_maps (λ ps qs. sized (overridden ps qs))
-maps_two MapUnion = on_maps (λ ps qs. joined (ps ++ qs))
-maps_two Composition = on_maps composed
 maps_two DomainRestriction = on_set_and_map (λ vs ps. sized (kept_keys vs ps))
 maps_two DomainRemoval = on_set_and_map (λ vs ps. sized (removed_keys vs ps))
 maps_two RangeRestriction = λ a b. on_set_and_map (λ vs ps. sized (kept_values vs ps)) b a
 maps_two RangeRemoval = λ a b. on_set_and_map (λ vs ps. sized (removed_values vs ps)) b a
-maps_two _ = λ a b. Err TypeFault
+maps_two operator = on_maps (map_two operator)

@@ -29,8 +29,20 @@ abbrev pub items_of : ValueTree → List ValueTree
 items_of (sequence vs) = value_list vs
 items_of v = []
 
+-- of items that are sequences, all of them
+abbrev pub of_all_sequences : (List (List ValueTree) → Outcome) → List ValueTree → Outcome
+of_all_sequences f vs = if list_all is_sequence vs then f (map items_of vs) else Err TypeFault
+
 abbrev pub on_sequence_of_sequences : (List (List ValueTree) → Outcome) → ValueTree → Outcome
-on_sequence_of_sequences f = on_sequence (λ vs. if list_all is_sequence vs then f (map items_of vs) else Err TypeFault)
+on_sequence_of_sequences f = on_sequence (of_all_sequences f)
+
+-- the items of the one, then those of the other
+abbrev pub joined : List ValueTree → List ValueTree → Outcome
+joined vs ws = sized (sequence_value (vs ++ ws))
+
+-- the items of all, one after another
+abbrev pub joined_all : List (List ValueTree) → Outcome
+joined_all parts = sized (sequence_value (flat_map (λ vs. vs) parts))
 
 -- ---- items at positions
 
@@ -53,6 +65,10 @@ abbrev pub there : Option ValueTree → Outcome
 there (Some v) = sized v
 there None = Err NotInDomain
 
+abbrev pub look_up : ValueTree → ValueTree → Outcome
+look_up (sequence vs) (number n) = there (at_position (value_list vs) n)
+look_up a b = Err TypeFault
+
 -- a number as one of items: none where it is negative
 abbrev pub count_up_to : ℤ → ℕ
 count_up_to (pos n) = n
@@ -62,9 +78,12 @@ count_up_to (negsuc n) = 0
 abbrev pub items_between : ℤ → ℤ → List ValueTree → List ValueTree
 items_between m n vs = drop (count_up_to (m -ℤ pos 1)) (take (count_up_to n) vs)
 
+abbrev pub between : List ValueTree → ValueTree → ValueTree → Outcome
+between vs = on_numbers (λ m n. sized (sequence_value (items_between m n vs)))
+
 -- the row of the subsequence, which has three operands
 abbrev pub subsequence : ValueTree → ValueTree → ValueTree → Outcome
-subsequence s a b = on_sequence (λ vs. on_numbers (λ m n. sized (sequence_value (items_between m n vs))) a b) s
+subsequence s a b = on_sequence (λ vs. between vs a b) s
 
 -- ---- items replaced
 
@@ -88,19 +107,23 @@ on_sequence_and_map f a b = Err TypeFault
 
 -- ---- the rows
 
+-- of one sequence
+abbrev pub sequence_one : Operator → List ValueTree → Outcome
+sequence_one Length vs = Ok (number (pos (length vs)))
+sequence_one Indices vs = sized (positions vs)
+sequence_one Elements vs = sized (set_value vs)
+sequence_one Head vs = head_of vs
+sequence_one Tail vs = tail_of vs
+sequence_one _ vs = Err TypeFault
+
 -- operators of one operand
 abbrev pub sequences_one : Operator → ValueTree → Outcome
-sequences_one Length = on_sequence (λ vs. Ok (number (pos (length vs))))
-sequences_one Indices = on_sequence (λ vs. sized (positions vs))
-sequences_one Elements = on_sequence (λ vs. sized (set_value vs))
-sequences_one DistributedConcatenation = on_sequence_of_sequences (λ parts. sized (sequence_value (flat_map (λ vs. vs) parts)))
-sequences_one Head = on_sequence head_of
-sequences_one Tail = on_sequence tail_of
-sequences_one _ = λ a. Err TypeFault
+sequences_one DistributedConcatenation = on_sequence_of_sequences joined_all
+sequences_one operator = on_sequence (sequence_one operator)
 
 -- operators of two
 abbrev pub sequences_two : Operator → ValueTree → ValueTree → Outcome
-sequences_two Concatenation = on_sequences (λ vs ws. sized (sequence_value (vs ++ ws)))
-sequences_two LookUp = λ a b. on_sequence (λ vs. on_number (λ n. there (at_position vs n)) b) a
+sequences_two Concatenation = on_sequences joined
+sequences_two LookUp = look_up
 sequences_two Override = on_sequence_and_map overridden
 sequences_two _ = λ a b. Err TypeFault

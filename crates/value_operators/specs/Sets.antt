@@ -45,17 +45,25 @@ abbrev pub members_of : ValueTree → List ValueTree
 members_of (set_of vs) = value_list vs
 members_of v = []
 
+-- of members that are sets, all of them
+abbrev pub of_all_sets : (List (List ValueTree) → Outcome) → List ValueTree → Outcome
+of_all_sets f vs = if list_all is_set vs then f (map members_of vs) else Err TypeFault
+
 abbrev pub on_set_of_sets : (List (List ValueTree) → Outcome) → ValueTree → Outcome
-on_set_of_sets f = on_set (λ vs. if list_all is_set vs then f (map members_of vs) else Err TypeFault)
+on_set_of_sets f = on_set (of_all_sets f)
 
 -- the members of all the sets
-abbrev pub union_of_all : List (List ValueTree) → ValueTree
-union_of_all sets = set_value (flat_map (λ vs. vs) sets)
+abbrev pub union_of_all : List (List ValueTree) → Outcome
+union_of_all sets = sized (set_value (flat_map (λ vs. vs) sets))
+
+-- whether every set has the value
+abbrev pub in_every : List (List ValueTree) → ValueTree → Bool
+in_every sets v = list_all (λ ws. has ws v) sets
 
 -- the members of the first that every other one has
 abbrev pub inter_of_all : List (List ValueTree) → Outcome
 inter_of_all [] = Err EmptyOperand
-inter_of_all (vs ∷ others) = sized (set_value (filter (λ v. list_all (λ ws. has ws v) others) vs))
+inter_of_all (vs ∷ others) = sized (set_value (filter (in_every others) vs))
 
 -- every list that leaves some members away, or none
 abbrev pub sublists : List ValueTree → List (List ValueTree)
@@ -72,7 +80,7 @@ power_set vs = set_value (map set_value (sublists vs))
 abbrev pub sets_one : Operator → ValueTree → Outcome
 sets_one Card = on_set (λ vs. Ok (number (pos (length vs))))
 sets_one PowerSet = on_set (λ vs. sized (power_set vs))
-sets_one DistributedUnion = on_set_of_sets (λ sets. sized (union_of_all sets))
+sets_one DistributedUnion = on_set_of_sets union_of_all
 sets_one DistributedInter = on_set_of_sets inter_of_all
 sets_one operator = numbers_one operator
 

@@ -29,6 +29,7 @@ sized_beyond v h = ap (λ r. if r then Ok v else Err SizeLimit) (either (nat_le 
     failed : IsTooLarge v → (nat_le (nodes_of v) 200000 ≡ false) ⊎ (nat_le (depth_of v) 500 ≡ false)
     failed (inl l) = inl (lt-leb (nodes_of v) 200000 l)
     failed (inr l) = inr (lt-leb (depth_of v) 500 l)
+
     either : (p q : Bool) → (p ≡ false) ⊎ (q ≡ false) → p && q ≡ false
     either p q (inl e) = ap (λ r. r && q) e
     either true q (inr e) = e

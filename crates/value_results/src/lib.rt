@@ -5,6 +5,6 @@ mod copies;
 mod halving;
 mod results;
 
-pub use copies::{push_copies, push_copy};
+pub use copies::{push_copies, push_copy, push_pair, push_pairs};
 pub use halving::{found, has};
 pub use results::{map_result, set_result, sized};
