@@ -60,9 +60,13 @@ turned = map (λ (p : Entry). (p.1, p.0))
 abbrev pub through : List Entry → Entry → Entry
 through ps q = (q.0, unwrap_or (found ps q.1) q.1)
 
+-- whether the left one has a value of the right one among its keys
+abbrev pub leads_on : List Entry → Entry → Bool
+leads_on ps q = has (keys ps) q.1
+
 -- first the right one, then the left one
 abbrev pub composed : List Entry → List Entry → Outcome
-composed ps qs = if list_all (λ (q : Entry). has (keys ps) q.1) qs then sized (map_value (map (through ps) qs)) else Err NotInDomain
+composed ps qs = if list_all (leads_on ps) qs then sized (map_value (map (through ps) qs)) else Err NotInDomain
 
 -- ---- sets of maps
 
