@@ -11,7 +11,7 @@ use Rattle.abstract_syntax.specs.Values.{ValueTree, number, set_of, value_trees,
 use Rattle.vdm_kinds.specs.declared.run_fault.RunFault.TheVariants.{SizeLimit}
 use Rattle.value_operators.specs.Outcomes.{sized}
 use Rattle.value_operators.specs.Sets.{interval}
-use Rattle.value_operators.proofs.Lists.{set_rising}
+use Rattle.value_operators.proofs.Consecutive.{numbers_are_a_set}
 use Rattle.value_results.proofs.Limits.{sized_beyond}
 use Rattle.abstract_syntax.specs.ValueOrder.{value_order}
 use Rattle.value_operators.specs.Members.{numbers_from, count_from_to}
@@ -39,24 +39,12 @@ count_one m =
     ap (λ r. if r then suc (unsigned_abs (m -ℤ m)) else 0) (le_true m m (omega (arith, ints)))
     ∙ ap (λ z. suc (unsigned_abs z)) (+ℤ_invr m)
 
-below : (m n : ℤ) → m <ℤ n → value_order (number m) (number n) ≡ Less
-below m n h = search (rules, h)
-
-numbers_above : (m z : ℤ) (k : ℕ) → m <ℤ z → AllByRecursion (λ y. value_order (number m) y ≡ Less) (numbers_from z k)
-numbers_above m z zero h = tt
-numbers_above m z (suc k) h = (below m z h, numbers_above m (z +ℤ pos 1) k (omega (arith, ints, h)))
-
-pub numbers_rise : (m : ℤ) (k : ℕ) → IsStrictlySortedBy value_order (numbers_from m k)
-unfolding IsStrictlySortedBy
-numbers_rise m zero = tt
-numbers_rise m (suc k) = (numbers_above m (m +ℤ pos 1) k (omega (arith, ints)), numbers_rise (m +ℤ pos 1) k)
-
 nodes_of_numbers : (m : ℤ) (k : ℕ) → nodes_of_values (value_trees (numbers_from m k)) ≡ k
 nodes_of_numbers m zero = refl
 nodes_of_numbers m (suc k) = omega (arith, nodes_of_numbers (m +ℤ pos 1) k)
 
 pub interval_is : (m n : ℤ) → interval m n ≡ set_of (value_trees (numbers_from m (count_from_to m n)))
-interval_is m n = set_rising _ (numbers_rise m (count_from_to m n))
+interval_is m n = numbers_are_a_set m (count_from_to m n)
 
 pub count_ahead : (m n : ℤ) → m ≤ℤ n → count_from_to m n ≡ suc (unsigned_abs (n -ℤ m))
 count_ahead m n h = ap (λ r. if r then suc (unsigned_abs (n -ℤ m)) else 0) (le_true m n h)

@@ -5,7 +5,8 @@ use Rattle.abstract_syntax.specs.Values.{set_of, value_trees}
 use Rattle.abstract_syntax.specs.ValueOrder.{value_order}
 use Rattle.value_operators.specs.Members.{numbers_from, count_from_to}
 use Rattle.value_operators.specs.Outcomes.{Gives, sized}
-use Rattle.set_ops.proofs.Numbered.{numbers_rise, interval_is, interval_large, interval_empty}
+use Rattle.value_operators.proofs.Consecutive.{numbers_rise}
+use Rattle.set_ops.proofs.Numbered.{interval_is, interval_large, interval_empty}
 use Rattle.set_ops.proofs.intervals.from_to.Goals as goal
 
 pub new-requires-then-m-n : goal.new-requires-then-m-n
