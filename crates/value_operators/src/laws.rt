@@ -3,7 +3,6 @@
 ghost use Rattle.std.specs.Prelude.{◌≡◌, ◌↔◌, IsTrue, List, Contains};
 ghost use Rattle.abstract_syntax.specs.Values.{ValueTree};
 ghost use Rattle.value_operators.specs.Members.{has};
-ghost use Rattle.value_operators.specs.Operators.{applied_one, applied_two};
 
 /// The test whether a value is a member is true exactly of the members.
 pub fn membership_is_decided()

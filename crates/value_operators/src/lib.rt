@@ -2,5 +2,7 @@
 #![tactic(auto)]
 
 mod laws;
+mod worked;
 
 pub use laws::membership_is_decided;
+pub use worked::{worked_numbers, worked_sequences_and_maps, worked_sets};
