@@ -1,7 +1,6 @@
 -- The test whether one key has two values.
-use Rattle.std.proofs.Common.{◌≡◌, ◌≢◌, Bool, true, false, not, ◌&&◌, ◌||◌, List, [], ◌∷◌, refl, ap, sym, ◌∙◌, subst, inl, inr, true≢false, Contains}
+use Rattle.std.proofs.Common.{◌≡◌, Bool, true, false, not, ◌&&◌, ◌||◌, List, [], ◌∷◌, refl, ap, sym, ◌∙◌, subst, inl, inr, true≢false, Contains}
 use Rattle.std.specs.List.{list_any}
-use Rattle.abstract_syntax.specs.Values.{ValueTree}
 use Rattle.abstract_syntax.specs.ValueCode.{value_code}
 use Rattle.abstract_syntax.specs.SameBy.{same_by-decides}
 use Rattle.abstract_syntax.specs.ValueSets.{Entry, HasConflict}

@@ -1,11 +1,11 @@
 -- Numbers that follow each other.
-use Rattle.std.proofs.Common.{◌≡◌, ℕ, zero, suc, ◌+◌, ℤ, pos, ◌+ℤ◌, ◌<ℤ◌, List, [], ◌∷◌, ◌++◌, refl, ap, sym, ◌∙◌, arith, rules, add-one}
+use Rattle.std.proofs.Common.{◌≡◌, ℕ, zero, suc, ◌+◌, ℤ, pos, ◌+ℤ◌, ◌<ℤ◌, [], ◌∷◌, ◌++◌, ap, sym, ◌∙◌, arith, rules, add-one}
 use Rattle.std.specs.declared.cmp.Ordering.TheVariants.{Less}
 use Rattle.std.specs.List.{AllByRecursion}
 use Rattle.std.specs.List.Sorted.{IsStrictlySortedBy}
 use Rattle.std.proofs.lemmas.Int.{ints}
 use lib.IntN.{+ℤ_idr, +ℤ_assoc}
-use Rattle.abstract_syntax.specs.Values.{ValueTree, number, set_of, value_trees}
+use Rattle.abstract_syntax.specs.Values.{number, set_of, value_trees}
 use Rattle.abstract_syntax.specs.ValueOrder.{value_order}
 use Rattle.abstract_syntax.specs.ValueSets.{set_value}
 use Rattle.value_operators.specs.Members.{numbers_from}

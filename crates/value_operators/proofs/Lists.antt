@@ -1,5 +1,5 @@
 -- Members of lists, by recursion, and lists that rise.
-use Rattle.std.proofs.Common.{◌≡◌, ◌↔◌, ◌⊎◌, Bool, true, false, cond, ◌||◌, ◌&&◌, List, [], ◌∷◌, ◌++◌, refl, ap, sym, ◌∙◌, subst, inl, inr, IsTrue, Contains, true≢false}
+use Rattle.std.proofs.Common.{◌≡◌, ◌↔◌, ◌⊎◌, Bool, true, false, not, cond, ◌||◌, ◌&&◌, List, [], ◌∷◌, ◌++◌, refl, ap, sym, ◌∙◌, subst, inl, inr, IsTrue, Contains, true≢false}
 use Rattle.std.specs.declared.cmp.Ordering.{Ordering}
 use Rattle.std.specs.declared.cmp.Ordering.TheVariants.{Less, Equal}
 use Rattle.std.specs.Ordering.{ordering_then}
@@ -7,7 +7,7 @@ use Rattle.std.specs.Cmp.{IsTotalOrder}
 use Rattle.std.specs.List.{filter, list_all}
 use Rattle.std.specs.List.Sorted.{IsStrictlySortedBy}
 use Rattle.std.proofs.lemmas.List.Kept.{IsStrictlySortedBy-filter}
-use Rattle.abstract_syntax.specs.Values.{ValueTree, set_of, map_of, value_trees, pair_trees}
+use Rattle.abstract_syntax.specs.Values.{ValueTree, set_of, map_of, value_trees, pair_trees, value_list-value_trees}
 use Rattle.abstract_syntax.specs.ValueOrder.{value_order}
 use Rattle.abstract_syntax.specs.ValueOrderTotal.{value_order_total, same_from_order}
 use Rattle.abstract_syntax.specs.ValueCode.{value_code}
@@ -18,6 +18,7 @@ use Rattle.abstract_syntax.proofs.RisingLaws.{In, in_from_contains, contains_fro
 use Rattle.abstract_syntax.proofs.MapLaws.{pair_order_total, pair_same}
 use Rattle.value_operators.specs.Numbers.{is_same}
 use Rattle.value_operators.specs.Members.{has}
+use Rattle.value_operators.specs.Sets.{members_of, union, inter, difference, is_subset}
 
 -- ---- the test of a member
 
@@ -126,3 +127,46 @@ map_rising ps s = ap (λ qs. map_of (pair_trees qs)) (rising_itself pair_order_t
 
 pub map_filtered : (p : Entry → Bool) (ps : List Entry) → IsStrictlySortedBy key_order ps → map_value (filter p ps) ≡ map_of (pair_trees (filter p ps))
 map_filtered p ps s = map_rising (filter p ps) (IsStrictlySortedBy-filter key_order p ps s)
+
+-- ---- the members of sets
+
+pub set_members : (xs : List ValueTree) (v : ValueTree) → Contains (members_of (set_value xs)) v ↔ Contains xs v
+set_members xs v =
+    let e : members_of (set_value xs) ≡ rising value_order xs = value_list-value_trees (rising value_order xs) in
+    let kept = rising_keeps value_order_total same_from_order xs v in
+    (λ c. kept.0 (subst (λ ys. Contains ys v) e c), λ c. subst (λ ys. Contains ys v) (sym e) (kept.1 c))
+
+pub union_members : (vs ws : List ValueTree) (v : ValueTree) → Contains (members_of (union vs ws)) v ↔ Contains vs v ⊎ Contains ws v
+union_members vs ws v = (
+  λ c. elim (from_append vs ws v (in_from_contains (vs ++ ws) v ((set_members (vs ++ ws) v).0 c))) [ inl i ↦ inl (contains_from_in vs v i) | inr i ↦ inr (contains_from_in ws v i) ],
+  λ h. (set_members (vs ++ ws) v).1 (contains_from_in (vs ++ ws) v (elim h [ inl c ↦ in_left vs ws v (in_from_contains vs v c) | inr c ↦ in_right vs ws v (in_from_contains ws v c) ])),
+)
+
+pub inter_members : (vs ws : List ValueTree) (v : ValueTree) → Contains (members_of (inter vs ws)) v ↔ Contains vs v × Contains ws v
+inter_members vs ws v = (
+  λ c. let h = from_filter (has ws) vs v (in_from_contains (filter (has ws) vs) v ((set_members (filter (has ws) vs) v).0 c)) in
+      (contains_from_in vs v h.0, (has_decides ws v).0 h.1),
+  λ h. (set_members (filter (has ws) vs) v).1 (contains_from_in (filter (has ws) vs) v (in_filter (has ws) vs v (in_from_contains vs v h.0) ((has_decides ws v).1 h.1))),
+)
+
+not_true : (p : Bool) → not p ≡ true → p ≡ true → ⊥
+not_true true e h = true≢false (sym e)
+not_true false e h = true≢false (sym h)
+
+not_false : (p : Bool) → (p ≡ true → ⊥) → not p ≡ true
+not_false true f = absurd (f refl)
+not_false false f = refl
+
+pub difference_members : (vs ws : List ValueTree) (v : ValueTree) → Contains (members_of (difference vs ws)) v ↔ Contains vs v × (Contains ws v → ⊥)
+difference_members vs ws v = (
+  λ c. let h = from_filter (λ w. not (has ws w)) vs v (in_from_contains (filter (λ w. not (has ws w)) vs) v ((set_members (filter (λ w. not (has ws w)) vs) v).0 c)) in
+      (contains_from_in vs v h.0, λ d. not_true (has ws v) h.1 ((has_decides ws v).1 d)),
+  λ h. (set_members (filter (λ w. not (has ws w)) vs) v).1 (contains_from_in (filter (λ w. not (has ws w)) vs) v
+      (in_filter (λ w. not (has ws w)) vs v (in_from_contains vs v h.0) (not_false (has ws v) (λ t. h.1 ((has_decides ws v).0 t))))),
+)
+
+pub subset_members : (vs ws : List ValueTree) → IsTrue (is_subset vs ws) ↔ ((v : ValueTree) → Contains vs v → Contains ws v)
+subset_members vs ws = (
+  λ t v c. (has_decides ws v).0 (all_in (has ws) vs v t (in_from_contains vs v c)),
+  λ f. all_by_in (has ws) vs (λ v i. (has_decides ws v).1 (f v (contains_from_in vs v i))),
+)

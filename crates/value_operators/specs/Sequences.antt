@@ -8,7 +8,7 @@ use Rattle.vdm_kinds.specs.declared.operator.Operator.TheVariants.{Length, Indic
 use Rattle.vdm_kinds.specs.declared.run_fault.RunFault.TheVariants.{TypeFault, NotInDomain, EmptyOperand}
 use Rattle.abstract_syntax.specs.Values.{ValueTree, number, sequence, map_of, value_trees, value_list, pair_list}
 use Rattle.abstract_syntax.specs.ValueSets.{Entry, set_value}
-use Rattle.value_operators.specs.Outcomes.{Outcome, sized, on_number, on_numbers, on_sequence, on_sequences}
+use Rattle.value_operators.specs.Outcomes.{Outcome, sized, on_numbers, on_sequence, on_sequences}
 use Rattle.value_operators.specs.Members.{numbers_from, found}
 
 -- the sequence of the items

@@ -4,5 +4,5 @@
 mod laws;
 mod worked;
 
-pub use laws::membership_is_decided;
+pub use laws::{membership_is_decided, sets_have_their_members};
 pub use worked::{worked_numbers, worked_sequences_and_maps, worked_sets};
