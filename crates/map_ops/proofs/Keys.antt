@@ -1,5 +1,5 @@
 -- Keys of maps, and maps of the pairs of two.
-use Rattle.std.proofs.Common.{◌≡◌, ◌⊎◌, ◌||◌, Bool, true, false, not, List, [], ◌∷◌, ◌++◌, map, refl, ap, sym, ◌∙◌, subst, inl, inr, true≢false, Option, Some, None, is_some}
+use Rattle.std.proofs.Common.{◌≡◌, ◌||◌, Bool, true, false, not, List, [], ◌∷◌, ◌++◌, refl, ap, sym, ◌∙◌, inl, inr, true≢false, Some, is_some}
 use Rattle.std.specs.Prelude.{if◌then◌else◌, Err}
 use Rattle.std.specs.declared.cmp.Ordering.TheVariants.{Less}
 use Rattle.std.specs.List.{filter, AllByRecursion}
@@ -16,8 +16,8 @@ use Rattle.vdm_kinds.specs.declared.run_fault.RunFault.TheVariants.{MapConflict}
 use Rattle.value_operators.specs.Numbers.{is_same}
 use Rattle.value_operators.specs.Members.{has, found}
 use Rattle.value_operators.specs.Outcomes.{sized}
-use Rattle.value_operators.specs.Maps.{keys, joined, overridden, is_in_conflict}
-use Rattle.value_operators.proofs.Lists.{in_from_has, has_from_in, from_filter, from_append, set_rising}
+use Rattle.value_operators.specs.Maps.{keys, joined, overridden}
+use Rattle.value_operators.proofs.Lists.{has_from_in, from_filter, from_append, set_rising}
 use Rattle.value_operators.proofs.Conflicts.{conflict_decided}
 
 -- ---- the keys of a map rise

@@ -1,5 +1,5 @@
 -- One map after another.
-use Rattle.std.proofs.Common.{◌≡◌, ℕ, zero, suc, ◌+◌, ◌<◌, ◌≤◌, Bool, true, false, ◌&&◌, List, [], ◌∷◌, ◌++◌, map, length, get_or, take, refl, ap, sym, ◌∙◌, subst, arith, add-one, Some, None}
+use Rattle.std.proofs.Common.{◌≡◌, ℕ, zero, suc, ◌+◌, ◌<◌, ◌≤◌, Bool, true, false, ◌&&◌, List, [], ◌∷◌, ◌++◌, map, length, get_or, take, refl, ap, sym, ◌∙◌, arith, add-one, Some, None}
 use Rattle.std.specs.Prelude.{is_some}
 use Rattle.std.specs.Option.{unwrap_or}
 use Rattle.std.specs.declared.cmp.Ordering.TheVariants.{Less}
@@ -7,8 +7,8 @@ use Rattle.std.specs.List.{list_all, AllByRecursion}
 use Rattle.std.specs.List.Sorted.{IsStrictlySortedBy}
 use Rattle.abstract_syntax.specs.Values.{ValueTree, map_of, pair_trees}
 use Rattle.abstract_syntax.specs.ValueSets.{Entry, key_order, map_value}
-use Rattle.value_operators.specs.Members.{found, has}
-use Rattle.value_operators.specs.Maps.{keys, through, leads_on}
+use Rattle.value_operators.specs.Members.{found}
+use Rattle.value_operators.specs.Maps.{through, leads_on}
 use Rattle.value_operators.proofs.Lists.{map_rising}
 use Rattle.map_ops.proofs.Keys.{found_key}
 

@@ -1,5 +1,5 @@
 -- Items replaced, one more; and a position of a sequence.
-use Rattle.std.proofs.Common.{◌≡◌, ℕ, zero, suc, ◌+◌, ◌<◌, ℤ, pos, ◌+ℤ◌, List, [], ◌∷◌, ◌++◌, length, get_or, take, refl, ap, sym, ◌∙◌, arith, add-one}
+use Rattle.std.proofs.Common.{◌≡◌, ℕ, zero, suc, ◌+◌, ◌<◌, ℤ, pos, ◌+ℤ◌, List, [], ◌∷◌, ◌++◌, length, get_or, take, ap, sym, ◌∙◌, arith, add-one}
 use Rattle.std.specs.Option.{unwrap_or}
 use lib.IntN.{+ℤ_idr, +ℤ_assoc}
 use Rattle.vdm_values.specs.declared.value.Node.{Node}

@@ -1,19 +1,14 @@
 -- Numbers that follow each other.
-use Rattle.std.proofs.Common.{◌≡◌, ℕ, zero, suc, ◌+◌, ◌<◌, ◌≤◌, ℤ, pos, negsuc, ◌+ℤ◌, ◌-ℤ◌, neg_ℤ, unsigned_abs, ◌≤ℤ◌, ◌<ℤ◌, Bool, true, false, List, [], ◌∷◌, ◌++◌, length, refl, ap, sym, ◌∙◌, subst, arith, rules, Err, inl}
+use Rattle.std.proofs.Common.{◌≡◌, ℕ, zero, suc, ◌≤◌, ℤ, pos, ◌+ℤ◌, ◌-ℤ◌, unsigned_abs, ◌≤ℤ◌, ◌<ℤ◌, true, false, List, [], ◌∷◌, ◌++◌, refl, ap, sym, ◌∙◌, arith, rules, Err, inl}
 use Rattle.std.specs.Prelude.{int_le, if◌then◌else◌}
-use Rattle.std.specs.declared.cmp.Ordering.TheVariants.{Less}
-use Rattle.std.specs.Ordering.{int_cmp}
-use Rattle.std.specs.List.{AllByRecursion}
-use Rattle.std.specs.List.Sorted.{IsStrictlySortedBy}
 use Rattle.std.proofs.lemmas.Int.{ints}
-use lib.IntN.{+ℤ_comm, +ℤ_assoc, +ℤ-neg_ℤ_cancel, -ℤ-+ℤ_cancel, +ℤ_invr}
+use lib.IntN.{+ℤ_invr}
 use Rattle.abstract_syntax.specs.Values.{ValueTree, number, set_of, value_trees, nodes_of_values}
 use Rattle.vdm_kinds.specs.declared.run_fault.RunFault.TheVariants.{SizeLimit}
 use Rattle.value_operators.specs.Outcomes.{sized}
 use Rattle.value_operators.specs.Sets.{interval}
 use Rattle.value_operators.proofs.Consecutive.{numbers_are_a_set}
 use Rattle.value_results.proofs.Limits.{sized_beyond}
-use Rattle.abstract_syntax.specs.ValueOrder.{value_order}
 use Rattle.value_operators.specs.Members.{numbers_from, count_from_to}
 
 le_true : (m n : ℤ) → m ≤ℤ n → int_le m n ≡ true

@@ -1,20 +1,20 @@
 -- How many nodes the set of all subsets has.
-use Rattle.std.proofs.Common.{◌≡◌, ◌⊎◌, ℕ, zero, suc, ◌+◌, ◌*◌, ◌^◌, ◌<◌, ◌≤◌, Bool, true, false, List, [], ◌∷◌, ◌++◌, map, length, get_or, take, drop, min, add-one, refl, ap, sym, ◌∙◌, subst, inl, inr, arith, rules}
+use Rattle.std.proofs.Common.{◌≡◌, ◌⊎◌, ℕ, zero, suc, ◌+◌, ◌*◌, ◌^◌, ◌<◌, ◌≤◌, List, [], ◌∷◌, ◌++◌, map, length, get_or, take, min, add-one, refl, ap, sym, ◌∙◌, subst, inl, inr, arith}
 use Rattle.std.specs.declared.cmp.Ordering.{Ordering}
 use Rattle.std.specs.declared.cmp.Ordering.TheVariants.{Less, Equal, Greater}
 use Rattle.std.specs.Ordering.{match_ordering}
-use Rattle.std.specs.List.{All, AllByRecursion}
+use Rattle.std.specs.List.{All}
 use Rattle.std.specs.List.Sorted.{IsStrictlySortedBy}
 use Rattle.std.proofs.lemmas.List.Elements.{Contains-get_or}
 use Rattle.std.proofs.lemmas.Grind.{pow_more}
 use Rattle.std.proofs.Math.Nat.{pow-le-pow_right, mul-le-mul, mul-add, add-mul, le_refl}
 use Rattle.abstract_syntax.specs.Values.{nil, boolean, number, character, quote, token, tuple, record_of, sequence, map_of, object}
-use Rattle.abstract_syntax.specs.Values.{ValueTree, nodes_of, nodes_of_values, value_trees, value_list, set_of, value_list-value_trees}
+use Rattle.abstract_syntax.specs.Values.{ValueTree, nodes_of, nodes_of_values, value_trees, set_of, value_list-value_trees}
 use Rattle.abstract_syntax.specs.ValueOrder.{value_order}
 use Rattle.abstract_syntax.specs.ValueOrderTotal.{value_order_total, same_from_order}
 use Rattle.abstract_syntax.specs.Rising.{insert_rising, rising}
 use Rattle.abstract_syntax.specs.ValueSets.{set_value}
-use Rattle.abstract_syntax.proofs.RisingLaws.{In, in_from_contains, contains_from_in, all_at, all_from, not_below_itself}
+use Rattle.abstract_syntax.proofs.RisingLaws.{In, in_from_contains, all_at, all_from, not_below_itself}
 use Rattle.value_operators.specs.Sets.{sublists, power_set, members_of}
 use Rattle.value_operators.proofs.Lists.{from_append, set_rising}
 

@@ -1,5 +1,5 @@
 -- What the limits of size say of an outcome.
-use Rattle.std.proofs.Common.{◌≡◌, ◌⊎◌, ℕ, ◌<◌, ◌≤◌, Bool, true, false, ◌&&◌, refl, ap, sym, ◌∙◌, subst, inl, inr, arith, rules, IfOk, Ok, Err, Result, nat_le}
+use Rattle.std.proofs.Common.{◌≡◌, ◌⊎◌, ℕ, ◌≤◌, Bool, true, false, ◌&&◌, refl, ap, sym, ◌∙◌, subst, inl, inr, rules, IfOk, Ok, Err, Result, nat_le}
 use Rattle.std.specs.Prelude.{if◌then◌else◌, List}
 use Rattle.std.proofs.lemmas.Bool.{lt-leb}
 use Rattle.vdm_kinds.specs.declared.halt.Halt.{Halt}
@@ -7,9 +7,9 @@ use Rattle.vdm_kinds.specs.declared.halt.Halt.TheVariants.{Of, OutOfMemory}
 use Rattle.vdm_kinds.specs.declared.run_fault.RunFault.{RunFault}
 use Rattle.vdm_kinds.specs.declared.run_fault.RunFault.TheVariants.{SizeLimit, MapConflict}
 use Rattle.abstract_syntax.specs.Values.{ValueTree, nodes_of, depth_of}
-use Rattle.abstract_syntax.specs.ValueSets.{Entry, set_value, map_value, HasConflict, IsWithinLimits, IsTooLarge}
-use Rattle.value_operators.specs.Outcomes.{Gives, sized, is_within_limits}
-use Rattle.value_operators.specs.Maps.{joined, is_in_conflict}
+use Rattle.abstract_syntax.specs.ValueSets.{Entry, map_value, HasConflict, IsWithinLimits, IsTooLarge}
+use Rattle.value_operators.specs.Outcomes.{Gives, sized}
+use Rattle.value_operators.specs.Maps.{joined}
 use Rattle.value_operators.proofs.Conflicts.{conflict_decided}
 
 at_most : (m n : ℕ) → m ≤ n → nat_le m n ≡ true

@@ -1,5 +1,5 @@
 -- Operands whose node is of the kind that is wanted, and parts that are.
-use Rattle.std.proofs.Common.{◌≡◌, ℕ, zero, suc, ◌+◌, ◌<◌, Bool, true, false, ◌&&◌, List, [], ◌∷◌, ◌++◌, map, length, get_or, take, refl, ap, sym, ◌∙◌, subst, arith, add-one, true≢false, rules}
+use Rattle.std.proofs.Common.{◌≡◌, ℕ, zero, suc, ◌+◌, ◌<◌, Bool, true, false, ◌&&◌, List, [], ◌∷◌, ◌++◌, map, length, get_or, take, refl, ap, sym, ◌∙◌, arith, add-one, rules}
 use Rattle.std.specs.List.{list_all, flat_map}
 use Rattle.vdm_values.specs.declared.value.Node.{Node}
 use Rattle.vdm_values.specs.declared.value.Node.TheVariants.{Set, Seq, Map}

@@ -1,5 +1,5 @@
 -- What a search by halving finds in a list that rises.
-use Rattle.std.proofs.Common.{◌≡◌, ℕ, zero, suc, ◌+◌, ◌<◌, ◌≤◌, Bool, true, false, List, [], ◌∷◌, length, get_or, refl, ap, sym, ◌∙◌, subst, arith, Ok, Err, Result, Option, Some, None, true≢false, ◌⊎◌, inl, inr}
+use Rattle.std.proofs.Common.{◌≡◌, ℕ, zero, suc, ◌+◌, ◌<◌, ◌≤◌, Bool, true, false, List, [], ◌∷◌, length, get_or, refl, ap, sym, ◌∙◌, arith, Ok, Err, Result, Some, None, ◌⊎◌, inl, inr}
 use Rattle.std.specs.Prelude.{if◌then◌else◌, is_ok}
 use Rattle.std.specs.declared.cmp.Ordering.{Ordering}
 use Rattle.std.specs.declared.cmp.Ordering.TheVariants.{Less, Equal, Greater}
@@ -8,14 +8,13 @@ use Rattle.std.specs.Cmp.{IsTotalOrder}
 use Rattle.std.specs.List.{AllByRecursion}
 use Rattle.std.specs.List.Sorted.{IsStrictlySortedBy, IsBinarySearchResult, IsSearchInRange, IsPartitionPoint, IsNonDecreasingBy, IsSortedBy}
 use Rattle.std.proofs.lemmas.List.Sorted.{searchable_from_sorted}
-use Rattle.std.proofs.lemmas.List.Elements.{Contains-get_or}
 use Rattle.abstract_syntax.specs.Values.{ValueTree}
 use Rattle.abstract_syntax.specs.ValueOrder.{value_order}
 use Rattle.abstract_syntax.specs.ValueOrderTotal.{value_order_total, same_from_order, order_of_itself}
 use Rattle.abstract_syntax.specs.ValueCode.{value_code}
 use Rattle.abstract_syntax.specs.SameBy.{same_by-decides}
 use Rattle.abstract_syntax.specs.ValueSets.{Entry, key_order}
-use Rattle.abstract_syntax.proofs.RisingLaws.{In, in_from_contains, contains_from_in, Less≢Equal}
+use Rattle.abstract_syntax.proofs.RisingLaws.{in_from_contains, contains_from_in, Less≢Equal}
 use Rattle.value_operators.specs.Numbers.{is_same}
 use Rattle.value_operators.specs.Members.{has, found}
 use Rattle.value_operators.proofs.Lists.{in_from_has, has_from_in}

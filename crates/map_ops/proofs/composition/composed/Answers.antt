@@ -7,7 +7,7 @@ use Rattle.vdm_kinds.specs.declared.run_fault.RunFault.TheVariants.{NotInDomain}
 use Rattle.abstract_syntax.specs.Values.{map_of, pair_trees}
 use Rattle.abstract_syntax.specs.ValueSets.{key_order, map_value}
 use Rattle.value_operators.specs.Outcomes.{Gives, sized}
-use Rattle.value_operators.specs.Maps.{through, leads_on, composed}
+use Rattle.value_operators.specs.Maps.{through, leads_on}
 use Rattle.map_ops.proofs.Through.{fails, passed_more, mapped_more, through_rise, through_is, leads, leads_not, led, whole_taken}
 use Rattle.map_ops.proofs.composition.composed.Goals as goal
 

@@ -1,4 +1,4 @@
-use Rattle.std.proofs.Common.{◌≡◌, ◌++◌, sym, ◌∙◌}
+use Rattle.std.proofs.Common.{◌++◌, sym, ◌∙◌}
 use Rattle.value_operators.specs.Maps.{is_map, pairs_of}
 use Rattle.value_results.proofs.Operands.{all_more, gathered_more, is_map_is, pairs_is}
 use Rattle.map_ops.proofs.joining.all_pairs.Goals as goal

@@ -1,4 +1,4 @@
-use Rattle.std.proofs.Common.{◌≡◌, ap, sym, ◌∙◌, subst}
+use Rattle.std.proofs.Common.{ap, sym, ◌∙◌, subst}
 use Rattle.value_operators.specs.Outcomes.{Gives}
 use Rattle.value_operators.specs.Maps.{of_all_maps, merged}
 use Rattle.value_results.proofs.Operands.{on_set_is}

@@ -1,4 +1,4 @@
-use Rattle.std.proofs.Common.{◌≡◌, ◌++◌, ap, ◌∙◌, subst}
+use Rattle.std.proofs.Common.{◌++◌, ap, ◌∙◌, subst}
 use Rattle.value_operators.specs.Outcomes.{Gives}
 use Rattle.map_ops.proofs.Keys.{overridden_is}
 use Rattle.map_ops.proofs.joining.overridden.Goals as goal

@@ -1,4 +1,4 @@
-use Rattle.std.proofs.Common.{◌≡◌, sym, ◌∙◌, subst}
+use Rattle.std.proofs.Common.{sym, ◌∙◌, subst}
 use Rattle.value_operators.specs.Outcomes.{Gives}
 use Rattle.value_operators.specs.Maps.{map_two}
 use Rattle.value_results.proofs.Operands.{on_maps_is}

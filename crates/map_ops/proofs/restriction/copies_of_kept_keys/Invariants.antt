@@ -1,4 +1,4 @@
-use Rattle.std.proofs.Common.{◌≡◌, take, not}
+use Rattle.std.proofs.Common.{◌≡◌, take}
 use Rattle.std.specs.List.{filter}
 use Rattle.abstract_syntax.specs.ValueSets.{Entry}
 use Rattle.value_operators.specs.Members.{has}

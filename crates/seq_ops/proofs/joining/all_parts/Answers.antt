@@ -1,4 +1,4 @@
-use Rattle.std.proofs.Common.{◌≡◌, ◌++◌, sym, ◌∙◌}
+use Rattle.std.proofs.Common.{◌++◌, sym, ◌∙◌}
 use Rattle.value_operators.specs.Sequences.{is_sequence, items_of}
 use Rattle.value_results.proofs.Operands.{all_more, gathered_more, is_sequence_is, items_is}
 use Rattle.seq_ops.proofs.joining.all_parts.Goals as goal

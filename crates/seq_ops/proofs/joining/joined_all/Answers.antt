@@ -1,4 +1,4 @@
-use Rattle.std.proofs.Common.{◌≡◌, ap, sym, ◌∙◌, subst}
+use Rattle.std.proofs.Common.{ap, sym, ◌∙◌, subst}
 use Rattle.value_operators.specs.Outcomes.{Gives}
 use Rattle.value_operators.specs.Sequences.{of_all_sequences, joined_all}
 use Rattle.value_results.proofs.Operands.{on_sequence_is}

@@ -1,5 +1,4 @@
-use Rattle.std.proofs.Common.{◌≡◌, ◌++◌, ◌∷◌, [], pos, ◌+ℤ◌, ap, sym, ◌∙◌}
-use Rattle.abstract_syntax.specs.Values.{number}
+use Rattle.std.proofs.Common.{◌++◌, ◌∷◌, [], pos, sym, ◌∙◌}
 use Rattle.value_operators.proofs.Consecutive.{numbers_more}
 use Rattle.seq_ops.proofs.projection.numbers.Goals as goal
 

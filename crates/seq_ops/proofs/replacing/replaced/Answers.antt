@@ -1,8 +1,6 @@
-use Rattle.std.proofs.Common.{◌≡◌, ◌++◌, ◌∷◌, [], pos, ◌+ℤ◌, ap, sym, ◌∙◌, take}
+use Rattle.std.proofs.Common.{◌++◌, ◌∷◌, [], pos, ap, sym, ◌∙◌}
 use Rattle.std.specs.Option.{unwrap_or}
-use Rattle.abstract_syntax.specs.Values.{number}
 use Rattle.value_operators.specs.Members.{found}
-use Rattle.value_operators.specs.Sequences.{replaced}
 use Rattle.seq_ops.proofs.Replaced.{replaced_more}
 use Rattle.seq_ops.proofs.replacing.replaced.Goals as goal
 

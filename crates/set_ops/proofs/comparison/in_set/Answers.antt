@@ -1,5 +1,4 @@
-use Rattle.std.proofs.Common.{◌≡◌, Ok, not, ap, sym, ◌∙◌}
-use Rattle.abstract_syntax.specs.Values.{boolean}
+use Rattle.std.proofs.Common.{Ok, ap, sym, ◌∙◌}
 use Rattle.value_operators.specs.Numbers.{truth}
 use Rattle.value_operators.specs.Members.{has}
 use Rattle.value_results.proofs.Operands.{on_set_is}

@@ -1,4 +1,4 @@
-use Rattle.std.proofs.Common.{◌≡◌, sym, ◌∙◌}
+use Rattle.std.proofs.Common.{sym, ◌∙◌}
 use Rattle.value_operators.specs.Members.{has}
 use Rattle.value_operators.specs.Sets.{members_of}
 use Rattle.value_results.proofs.Operands.{mapped_not_all}

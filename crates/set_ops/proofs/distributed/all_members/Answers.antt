@@ -1,4 +1,4 @@
-use Rattle.std.proofs.Common.{◌≡◌, ◌++◌, ap, sym, ◌∙◌}
+use Rattle.std.proofs.Common.{◌++◌, sym, ◌∙◌}
 use Rattle.value_operators.specs.Sets.{is_set, members_of}
 use Rattle.value_results.proofs.Operands.{all_more, gathered_more, is_set_is, members_is}
 use Rattle.set_ops.proofs.distributed.all_members.Goals as goal

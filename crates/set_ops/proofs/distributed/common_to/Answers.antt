@@ -1,6 +1,5 @@
-use Rattle.std.proofs.Common.{◌≡◌, List, map, ap, sym, ◌∙◌, subst}
+use Rattle.std.proofs.Common.{map, sym, ◌∙◌, subst}
 use Rattle.std.specs.List.{filter}
-use Rattle.abstract_syntax.specs.Values.{ValueTree}
 use Rattle.abstract_syntax.specs.ValueSets.{set_value}
 use Rattle.value_operators.specs.Outcomes.{Gives, sized}
 use Rattle.value_operators.specs.Sets.{members_of, in_every}

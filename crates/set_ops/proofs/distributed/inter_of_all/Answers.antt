@@ -1,4 +1,4 @@
-use Rattle.std.proofs.Common.{◌≡◌, ap, sym, ◌∙◌, subst}
+use Rattle.std.proofs.Common.{ap, sym, ◌∙◌, subst}
 use Rattle.value_operators.specs.Outcomes.{Gives}
 use Rattle.value_operators.specs.Sets.{of_all_sets, inter_of_all}
 use Rattle.value_results.proofs.Operands.{on_set_is}

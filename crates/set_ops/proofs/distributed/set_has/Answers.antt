@@ -1,4 +1,4 @@
-use Rattle.std.proofs.Common.{◌≡◌, ap, sym, ◌∙◌}
+use Rattle.std.proofs.Common.{ap, sym, ◌∙◌}
 use Rattle.value_operators.specs.Members.{has}
 use Rattle.value_results.proofs.Operands.{members_is}
 use Rattle.set_ops.proofs.distributed.set_has.Goals as goal

@@ -1,4 +1,4 @@
-use Rattle.std.proofs.Common.{◌≡◌, take, not}
+use Rattle.std.proofs.Common.{◌≡◌, take}
 use Rattle.std.specs.List.{filter}
 use Rattle.value_operators.specs.Members.{has as has_member}
 use Rattle.set_ops.proofs.joining.common.Given as goal

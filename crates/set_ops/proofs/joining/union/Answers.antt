@@ -1,4 +1,4 @@
-use Rattle.std.proofs.Common.{◌≡◌, ◌++◌, ap, sym, ◌∙◌, subst}
+use Rattle.std.proofs.Common.{◌++◌, ap, ◌∙◌, subst}
 use Rattle.value_operators.specs.Outcomes.{Gives, sized}
 use Rattle.set_ops.proofs.Joined.{union_is}
 use Rattle.set_ops.proofs.joining.union.Goals as goal

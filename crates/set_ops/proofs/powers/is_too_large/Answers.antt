@@ -1,4 +1,4 @@
-use Rattle.std.proofs.Common.{◌<◌, length, arith, rules}
+use Rattle.std.proofs.Common.{◌<◌, rules}
 use Rattle.set_ops.proofs.Subsets.{many_members, many_nodes}
 use Rattle.set_ops.proofs.powers.is_too_large.Goals as goal
 

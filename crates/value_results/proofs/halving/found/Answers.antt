@@ -1,7 +1,6 @@
 use Rattle.std.proofs.Common.{◌≡◌, sym, rules}
 use Rattle.std.specs.Prelude.{slice_index_or}
 use Rattle.std.specs.declared.cmp.Ordering.TheVariants.{Equal}
-use Rattle.std.specs.Fn.{Called, ComputesKey}
 use Rattle.std.proofs.lemmas.Fn.{always_returns_same}
 use Rattle.abstract_syntax.specs.ValueOrder.{value_order}
 use Rattle.value_results.proofs.Searches.{found_at, found_none, pair_not_there}

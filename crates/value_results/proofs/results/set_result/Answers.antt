@@ -1,4 +1,4 @@
-use Rattle.std.proofs.Common.{ap, subst}
+use Rattle.std.proofs.Common.{subst}
 use Rattle.abstract_syntax.specs.ValueSets.{set_value}
 use Rattle.value_operators.specs.Outcomes.{Gives, sized}
 use Rattle.value_results.proofs.Limits.{gives_set}
