@@ -1,0 +1,9 @@
+use Rattle.std.proofs.Common.{◌≡◌, take, not}
+use Rattle.std.specs.List.{filter}
+use Rattle.abstract_syntax.specs.ValueSets.{Entry}
+use Rattle.value_operators.specs.Members.{has}
+use Rattle.value_operators.specs.Maps.{keys}
+use Rattle.map_ops.proofs.joining.left_alone.Given as goal
+
+abbrev pub invariant-loop-pair : goal.invariant-loop-pair
+invariant-loop-pair l = l.kept.items ≡ filter (λ (p : Entry). not (has (keys l.others) p.0)) (take l.pair-index l.pairs)

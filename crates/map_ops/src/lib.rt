@@ -1,0 +1,10 @@
+//! The operators on maps.
+#![tactic(auto)]
+
+mod composition;
+mod joining;
+mod operand;
+mod projection;
+mod restriction;
+
+pub use operand::{binary, unary};
