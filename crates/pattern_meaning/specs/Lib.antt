@@ -1,0 +1,4 @@
+pub mod Bindings
+pub mod Choices
+pub mod RecordTypes
+pub mod Ways

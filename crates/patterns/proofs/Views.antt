@@ -1,0 +1,41 @@
+-- The pure tree of each kind of pattern.
+use Rattle.std.proofs.Common.{◌≡◌, rules, ap, ◌∙◌, sym, map}
+use Rattle.abstract_syntax.specs.Expressions.{any_value, bound, literal_pattern, equal_to, set_pattern, sequence_pattern, map_pattern, empty_map_pattern, tuple_pattern, record_pattern, concatenation_pattern}
+use Rattle.vdm_tree.specs.declared.pattern.Pattern as rust
+use Rattle.vdm_tree.specs.declared.pattern.Pattern.{the_lemmas}
+use Rattle.vdm_tree.specs.declared.pattern.Pattern.TheVariants.{rolls-AnyValue, rolls-Bound, rolls-Literal, rolls-EqualTo, rolls-Set, rolls-Sequence, rolls-Map, rolls-EmptyMap, rolls-Tuple, rolls-Record, rolls-Concatenation}
+use Rattle.vdm_tree.specs.Literals.{literal_view}
+use Rattle.vdm_tree.specs.View.{view_of, pattern_view, pattern_views, pattern_trees, maplet_pattern_view, maplet_pattern_trees}
+
+pub view_of-AnyValue : (place : _) → pattern_view (rust.AnyValue place) ≡ any_value place
+view_of-AnyValue place = ap pattern_view (sym (rolls-AnyValue place)) ∙ search (rules, the_lemmas)
+
+pub view_of-Bound : (name : _) (place : _) → pattern_view (rust.Bound name place) ≡ bound name place
+view_of-Bound name place = ap pattern_view (sym (rolls-Bound name place)) ∙ search (rules, the_lemmas)
+
+pub view_of-Literal : (l : _) (place : _) → pattern_view (rust.Literal l place) ≡ literal_pattern (literal_view l) place
+view_of-Literal l place = ap pattern_view (sym (rolls-Literal l place)) ∙ search (rules, the_lemmas)
+
+pub view_of-EqualTo : (inner : _) (place : _) → pattern_view (rust.EqualTo inner place) ≡ equal_to (view_of inner.value) place
+view_of-EqualTo inner place = ap pattern_view (sym (rolls-EqualTo inner place)) ∙ search (rules, the_lemmas)
+
+pub view_of-Set : (ps : _) (place : _) → pattern_view (rust.Set ps place) ≡ set_pattern (pattern_trees (pattern_views ps.items)) place
+view_of-Set ps place = ap pattern_view (sym (rolls-Set ps place)) ∙ search (rules, the_lemmas)
+
+pub view_of-Sequence : (ps : _) (place : _) → pattern_view (rust.Sequence ps place) ≡ sequence_pattern (pattern_trees (pattern_views ps.items)) place
+view_of-Sequence ps place = ap pattern_view (sym (rolls-Sequence ps place)) ∙ search (rules, the_lemmas)
+
+pub view_of-Map : (ms : _) (place : _) → pattern_view (rust.Map ms place) ≡ map_pattern (maplet_pattern_trees (map maplet_pattern_view ms.items)) place
+view_of-Map ms place = ap pattern_view (sym (rolls-Map ms place)) ∙ search (rules, the_lemmas)
+
+pub view_of-EmptyMap : (place : _) → pattern_view (rust.EmptyMap place) ≡ empty_map_pattern place
+view_of-EmptyMap place = ap pattern_view (sym (rolls-EmptyMap place)) ∙ search (rules, the_lemmas)
+
+pub view_of-Tuple : (ps : _) (place : _) → pattern_view (rust.Tuple ps place) ≡ tuple_pattern (pattern_trees (pattern_views ps.items)) place
+view_of-Tuple ps place = ap pattern_view (sym (rolls-Tuple ps place)) ∙ search (rules, the_lemmas)
+
+pub view_of-Record : (t : _) (ps : _) (place : _) → pattern_view (rust.Record t ps place) ≡ record_pattern t (pattern_trees (pattern_views ps.items)) place
+view_of-Record t ps place = ap pattern_view (sym (rolls-Record t ps place)) ∙ search (rules, the_lemmas)
+
+pub view_of-Concatenation : (ps : _) (place : _) → pattern_view (rust.Concatenation ps place) ≡ concatenation_pattern (pattern_trees (pattern_views ps.items)) place
+view_of-Concatenation ps place = ap pattern_view (sym (rolls-Concatenation ps place)) ∙ search (rules, the_lemmas)
