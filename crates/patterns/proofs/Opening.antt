@@ -85,7 +85,7 @@ module _ (types : TypeName → Option RecordType) where
       ap (λ p. crossed (with_parts p (λ ws. where_true (as_many count (length ws)) (f ws))) more) e ∙
       leads_nowhere (as_many count (length vs)) (f vs) more (are_not_as_many count (length vs) n)
 
-  from_the_first : (ps : PatternTrees) (vs given : List ValueTree) → ways_of_fronts types ps given vs ≡ splitting types ps given vs 0
+  pub from_the_first : (ps : PatternTrees) (vs given : List ValueTree) → ways_of_fronts types ps given vs ≡ splitting types ps given vs 0
   from_the_first no_patterns vs given = refl
   from_the_first (one_pattern p ps) vs given = refl
 

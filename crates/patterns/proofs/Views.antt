@@ -1,9 +1,11 @@
 -- The pure tree of each kind of pattern.
-use Rattle.std.proofs.Common.{◌≡◌, rules, ap, ◌∙◌, sym, map}
-use Rattle.abstract_syntax.specs.Expressions.{any_value, bound, literal_pattern, equal_to, set_pattern, sequence_pattern, map_pattern, empty_map_pattern, tuple_pattern, record_pattern, concatenation_pattern}
+use Rattle.std.proofs.Common.{◌≡◌, ℕ, ◌-◌, ◌<◌, ◌≤◌, List, [], ◌∷◌, length, take, drop, get_or, rules, ap, ◌∙◌, sym, map}
+use Rattle.abstract_syntax.specs.Expressions.{PatternTree, any_value, bound, literal_pattern, equal_to, set_pattern, sequence_pattern, map_pattern, empty_map_pattern, tuple_pattern, record_pattern, concatenation_pattern, no_patterns, one_pattern, no_maplet_patterns, one_maplet_pattern}
 use Rattle.vdm_tree.specs.declared.pattern.Pattern as rust
-use Rattle.vdm_tree.specs.declared.pattern.Pattern.{the_lemmas}
+use Rattle.vdm_tree.specs.declared.pattern.Pattern.{Pattern, the_lemmas}
+use Rattle.vdm_tree.specs.declared.pattern.MapletPattern.{MapletPattern}
 use Rattle.vdm_tree.specs.declared.pattern.Pattern.TheVariants.{rolls-AnyValue, rolls-Bound, rolls-Literal, rolls-EqualTo, rolls-Set, rolls-Sequence, rolls-Map, rolls-EmptyMap, rolls-Tuple, rolls-Record, rolls-Concatenation}
+use Rattle.patterns.proofs.Picked.{headed_slice, no_items}
 use Rattle.vdm_tree.specs.Literals.{literal_view}
 use Rattle.vdm_tree.specs.View.{view_of, pattern_view, pattern_views, pattern_trees, maplet_pattern_view, maplet_pattern_trees}
 
@@ -39,3 +41,22 @@ view_of-Record t ps place = ap pattern_view (sym (rolls-Record t ps place)) ∙ 
 
 pub view_of-Concatenation : (ps : _) (place : _) → pattern_view (rust.Concatenation ps place) ≡ concatenation_pattern (pattern_trees (pattern_views ps.items)) place
 view_of-Concatenation ps place = ap pattern_view (sym (rolls-Concatenation ps place)) ∙ search (rules, the_lemmas)
+
+-- patterns with one at their head
+pub view_headed : (ps : List Pattern) (p : Pattern) → 1 ≤ length ps → p ≡ get_or ps 0 p →
+    pattern_trees (pattern_views ps) ≡ one_pattern (pattern_view p) (pattern_trees (pattern_views (take (length ps - 1) (drop 1 ps))))
+view_headed ps p h e = ap (λ qs. pattern_trees (pattern_views qs)) (headed_slice ps p h e)
+
+pub view_none : (ps : List Pattern) → length ps < 1 → pattern_trees (pattern_views ps) ≡ no_patterns
+view_none ps h = ap (λ qs. pattern_trees (pattern_views qs)) (no_items ps h)
+
+pub maplets_headed : (ms : List MapletPattern) (m : MapletPattern) (k v : PatternTree) → 1 ≤ length ms → m ≡ get_or ms 0 m →
+    maplet_pattern_view m ≡ record { key = k; value = v } →
+    maplet_pattern_trees (map maplet_pattern_view ms) ≡
+    one_maplet_pattern k v (maplet_pattern_trees (map maplet_pattern_view (take (length ms - 1) (drop 1 ms))))
+maplets_headed ms m k v h e d =
+    ap (λ ns. maplet_pattern_trees (map maplet_pattern_view ns)) (headed_slice ms m h e) ∙
+    ap (λ w. one_maplet_pattern w.key w.value (maplet_pattern_trees (map maplet_pattern_view (take (length ms - 1) (drop 1 ms))))) d
+
+pub maplets_none : (ms : List MapletPattern) → length ms < 1 → maplet_pattern_trees (map maplet_pattern_view ms) ≡ no_maplet_patterns
+maplets_none ms h = ap (λ ns. maplet_pattern_trees (map maplet_pattern_view ns)) (no_items ms h)

@@ -11,7 +11,8 @@ use Rattle.patterns.specs.Todos.{TodoTree, subject_tree, todo_of, all_ways}
 use Rattle.patterns.specs.declared.bound.Bound.{Bound}
 use Rattle.patterns.specs.declared.bound.Names.{Names}
 use Rattle.patterns.specs.declared.work.Work.{Work}
-use Rattle.patterns.specs.declared.search.Other.{Other}
+use Rattle.patterns.specs.declared.others.Other.{Other}
+use Rattle.patterns.specs.declared.others.Others.{Others}
 use Rattle.patterns.specs.declared.search.Search.{Search}
 use Rattle.patterns.specs.declared.search.Turn.{Turn}
 use Rattle.patterns.specs.declared.search.Turn.TheVariants.{Found, Nothing, On}
@@ -34,8 +35,11 @@ abbrev pub choice_of : Other → Choice
 choice_of o = record { todos = to_come o.work; given = o.given.now; kept = o.kept }
 
 -- the other choices, the last one made first
-unfoldable pub choices_of : Search → List Choice
-choices_of s = reverse (map choice_of s.others.items)
+unfoldable pub choices_in : Others → List Choice
+choices_in o = reverse (map choice_of o.others.items)
+
+abbrev pub choices_of : Search → List Choice
+choices_of s = choices_in s.others
 
 module _ (types : TypeName → Option RecordType) where
   -- the bindings that go on from what is bound
@@ -91,9 +95,9 @@ module _ (types : TypeName → Option RecordType) where
     pub same : after on new ≡ filter_map (with_way (binding_of old.names)) ways ++ left old
     pub nested : IsNested (length (binding_of new.names)) (choices_of new)
 
-  -- how a turn ends: nothing is left to be matched, no binding is left, or it goes on and passes over none
-  pub record Ends (turn : Turn) (old new : Search) : Type 0 where
-    pub same : ends_with turn new ≡ found old
+  -- how a turn ends, where these were all bindings: nothing is left to be matched, there is none, or it goes on and passes over none
+  pub record Ends (all : List Binding) (turn : Turn) (new : Search) : Type 0 where
+    pub same : ends_with turn new ≡ all
     pub nested : IsNested (length (binding_of new.names)) (choices_of new)
 
   -- a step back goes on with the choice made last, where there is one

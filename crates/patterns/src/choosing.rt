@@ -1,9 +1,12 @@
 // What is left where one is chosen.
 
-ghost use Rattle.std.specs.Prelude.{◌≡◌, ◌+◌, ◌++◌, IfOk, take, drop};
+ghost use Rattle.std.specs.Prelude.{◌≡◌, ◌↔◌, ◌+◌, ◌++◌, [], IsTrue, ◌<◌, ◌≤◌, IfOk, MatchOption, take, drop, length, get_or};
+ghost use Rattle.patterns.specs.Todos.{at};
+ghost use Rattle.vdm_tree.specs.View.{pattern_view, maplet_pattern_view};
 
 use std::alloc::Global;
 use vdm_kinds::OutOfMemory;
+use vdm_tree::{MapletPattern, Pattern};
 use vdm_values::Value;
 
 /// The values but for the one of this index.
@@ -38,4 +41,43 @@ pub(crate) fn without_pair<'t>(
         }
     }
     Ok(left)
+}
+
+/// The value of this index.
+pub(crate) fn pick<'t>(values: &[&'t Value], index: usize) -> Option<&'t Value>
+    ensures { MatchOption result (length (at values.now) ≤ index) (λ v. (index < length (at values.now)) × (v.now ≡ get_or (at values.now) index v.now)) }
+{
+    if index < values.len() {
+        Some(values[index])
+    } else {
+        None
+    }
+}
+
+/// The pair of this index.
+pub(crate) fn pick_pair<'t>(
+    pairs: &[&'t (Value, Value)],
+    index: usize,
+) -> Option<&'t (Value, Value)>
+    ensures { MatchOption result (length (at pairs.now) ≤ index) (λ p. (index < length (at pairs.now)) × (p.now ≡ get_or (at pairs.now) index p.now)) }
+{
+    if index < pairs.len() {
+        Some(pairs[index])
+    } else {
+        None
+    }
+}
+
+/// Whether no item is left.
+pub(crate) fn is_over(items: &[Value]) -> bool
+    ensures { IsTrue result ↔ items.now ≡ [] }
+{
+    items.len() == 0
+}
+
+/// The patterns of a key and of its value.
+pub(crate) fn both(maplet: &MapletPattern) -> (&Pattern, &Pattern)
+    ensures { maplet_pattern_view maplet.now ≡ record { key = pattern_view result.0.now; value = pattern_view result.1.now } }
+{
+    (&maplet.key, &maplet.value)
 }

@@ -5,6 +5,7 @@ mod bound;
 mod choosing;
 mod literals;
 mod open;
+mod others;
 mod record_types;
 mod search;
 mod subject;

@@ -5,12 +5,13 @@ ghost use Rattle.vdm_kinds.specs.declared.name_at.TypeName.{TypeName};
 ghost use Rattle.pattern_meaning.specs.RecordTypes.{RecordType, stands_for};
 ghost use Rattle.pattern_meaning.specs.Ways.{is_next, where_true};
 ghost use Rattle.patterns.specs.Todos.{all_ways, next_ways, at, subject_tree, todo_of, to_match_items, to_choose, to_choose_pair, to_split};
-ghost use Rattle.patterns.specs.Search.{to_come, binding_of, choices_of, IsNested, Goes, GoesBack, Waits, Ends};
+ghost use Rattle.patterns.specs.Search.{to_come, binding_of, choices_of, IsNested, Goes, GoesBack, Waits, Ends, after, found};
 ghost use Rattle.vdm_tree.specs.View.{pattern_views, pattern_trees, maplet_pattern_view, maplet_pattern_trees};
 
 use crate::bound::{Bound, Names};
-use crate::choosing::{without, without_pair};
+use crate::choosing::{both, is_over, pick, pick_pair, without, without_pair};
 use crate::open::open;
+use crate::others::{Other, Others};
 use crate::subject::Subject;
 use crate::todo::{Next, Todo};
 use crate::work::Work;
@@ -19,14 +20,6 @@ use vdm_kinds::{Name, OutOfMemory};
 use vdm_tree::{MapletPattern, Pattern, TypeNames};
 use vdm_values::Value;
 
-/// Another choice, for where those made behind it come to nothing.
-#[derive(Drop)]
-pub(crate) struct Other<'t> {
-    work: Work<'t>,
-    given: &'t [Value],
-    kept: usize,
-}
-
 /// A search: what is to be matched, the values that are given for it, the names that are bound, and other choices, of which the
 /// last one is tried first.
 #[derive(Drop)]
@@ -34,7 +27,7 @@ pub(crate) struct Search<'t> {
     work: Work<'t>,
     given: &'t [Value],
     names: Names<'t>,
-    others: Vec<Other<'t>>,
+    others: Others<'t>,
 }
 
 /// How a turn of a search ends.
@@ -57,15 +50,27 @@ impl<'t> Search<'t> {
         names: &N,
     ) -> Result<Turn, OutOfMemory>
         requires { IsNested (length (binding_of self.old.names)) (choices_of self.old) }
-        ensures { IfOk result (λ turn. Ends (stands_for (N.found names.now) (N.rank names.now) scope) turn self.old self.new) }
+        ensures { IfOk result (λ turn. Ends (stands_for (N.found names.now) (N.rank names.now) scope) (found (stands_for (N.found names.now) (N.rank names.now) scope) self.old) turn self.new) }
     {
         let Some(todo) = self.work.pop() else {
             return Ok(Turn::Found);
         };
-        if self.follow(alloc, todo, scope, names)? || self.back() {
-            Ok(Turn::On)
+        let on = self.follow(alloc, todo, scope, names)?;
+        Ok(self.end_turn(on))
+    }
+
+    // Goes on, or goes back where what was tried came to nothing.
+    fn end_turn(&mut self, on: bool) -> Turn
+        requires { IsNested (length (binding_of self.old.names)) (choices_of self.old) }
+        ensures { (types : TypeName → Option RecordType) → Ends types (after types on self.old) result self.new }
+    {
+        if on {
+            return Turn::On;
+        }
+        if self.back() {
+            Turn::On
         } else {
-            Ok(Turn::Nothing)
+            Turn::Nothing
         }
     }
 
@@ -171,10 +176,9 @@ impl<'t> Search<'t> {
         let [pattern, others @ ..] = patterns else {
             return Ok(true);
         };
-        if from >= left.len() {
+        let Some(element) = pick(left.as_slice(), from) else {
             return Ok(false);
-        }
-        let element = left[from];
+        };
         let rest = without(alloc, left.as_slice(), from)?;
         self.wait(alloc, Todo::Choose(patterns, left, from + 1))?;
         self.work.push(Todo::Choose(others, rest, 0))?;
@@ -197,17 +201,16 @@ impl<'t> Search<'t> {
         let [pattern, others @ ..] = patterns else {
             return Ok(true);
         };
-        if from >= left.len() {
+        let Some(pair) = pick_pair(left.as_slice(), from) else {
             return Ok(false);
-        }
-        let (key, value) = left[from];
+        };
         let rest = without_pair(alloc, left.as_slice(), from)?;
+        let (key, value) = both(pattern);
         self.wait(alloc, Todo::ChoosePair(patterns, left, from + 1))?;
         self.work.push(Todo::ChoosePair(others, rest, 0))?;
         self.work
-            .push(Todo::Match(&pattern.value, Subject::Whole(value)))?;
-        self.work
-            .push(Todo::Match(&pattern.key, Subject::Whole(key)))?;
+            .push(Todo::Match(value, Subject::Whole(&pair.1)))?;
+        self.work.push(Todo::Match(key, Subject::Whole(&pair.0)))?;
         Ok(true)
     }
 
@@ -223,7 +226,7 @@ impl<'t> Search<'t> {
         ensures { (types : TypeName → Option RecordType) → IfOk result (λ on. Goes types (all_ways types self.old.given.now (to_split (pattern_trees (pattern_views patterns.now)) items.now from ∷ to_come self.old.work)) on self.old self.new) }
     {
         let [pattern, others @ ..] = patterns else {
-            return Ok(items.is_empty());
+            return Ok(is_over(items));
         };
         if from > items.len() {
             return Ok(false);
@@ -243,7 +246,7 @@ impl<'t> Search<'t> {
         work.push(todo)?;
         let given = self.given;
         let kept = self.names.len();
-        self.others.push(Other { work, given, kept })?;
+        self.others.push(work, given, kept)?;
         Ok(())
     }
 
