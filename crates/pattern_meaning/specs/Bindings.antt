@@ -1,5 +1,5 @@
 -- The bindings of a pattern with a value: the ways in which equal names stand for equal values.
-use Rattle.std.specs.Prelude.{◌≡◌, nat_eq, if◌then◌else◌, List, [], ◌∷◌, ◌++◌, Option, Some, None}
+use Rattle.std.specs.Prelude.{◌≡◌, nat_eq, if◌then◌else◌, List, [], ◌∷◌, ◌++◌, All, Contains, Option, Some, None}
 use Rattle.std.specs.Option.{option_and_then}
 use Rattle.std.specs.List.{filter_map}
 use Rattle.std.specs.Map.{lookup}
@@ -7,6 +7,7 @@ use Rattle.vdm_kinds.specs.declared.name.Name.{Name}
 use Rattle.vdm_kinds.specs.declared.name_at.TypeName.{TypeName}
 use Rattle.abstract_syntax.specs.Expressions.{PatternTree}
 use Rattle.abstract_syntax.specs.Values.{ValueTree}
+use Rattle.abstract_syntax.specs.ValueSets.{IsWithinLimits as IsValueWithinLimits, IsTooLarge}
 use Rattle.pattern_meaning.specs.RecordTypes.{RecordType}
 use Rattle.pattern_meaning.specs.Ways.{Way, ways, is_same}
 
@@ -31,6 +32,16 @@ with_pair b p = put b p (value_in b p.0)
 abbrev pub with_way : Binding → Way → Option Binding
 with_way b [] = Some b
 with_way b (p ∷ ps) = option_and_then (λ c. with_way c ps) (with_pair b p)
+
+-- each value is within the limits of size
+abbrev pub IsWithinLimits : Binding → Type 0
+IsWithinLimits = All (λ p. IsValueWithinLimits p.1)
+
+-- some value is past them
+pub record IsPastLimits (b : Binding) : Type 0 where
+  pub pair : Name × ValueTree
+  pub there : Contains b pair
+  pub large : IsTooLarge pair.1
 
 -- the first item of a list
 abbrev pub first_of : {A : Type 0} → List A → Option A

@@ -6,7 +6,7 @@ use Rattle.vdm_kinds.specs.declared.name.Name.{Name}
 use Rattle.vdm_kinds.specs.declared.name_at.TypeName.{TypeName}
 use Rattle.abstract_syntax.specs.Types.{TypeTree, bracketed_type, named_type}
 use Rattle.abstract_syntax.specs.Classes.{TypeBody, same_as, with_fields, TypeDefTree}
-use Rattle.vdm_tree.specs.Alternatives.{Finder, IsRanked, alternatives, body_alternatives}
+use Rattle.expr_tree.specs.Alternatives.{Finder, IsRanked, alternatives, body_alternatives}
 use Rattle.pattern_meaning.specs.RecordTypes.{RecordType, name_in, renamed, has_fields, definition_of, record_type_of, stands_for}
 use Rattle.patterns.proofs.Lists.{some_value}
 

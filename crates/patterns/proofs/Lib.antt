@@ -6,3 +6,4 @@ pub mod Picked
 pub mod Steps
 pub mod Turns
 pub mod Views
+pub mod Whole

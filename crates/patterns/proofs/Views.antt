@@ -1,13 +1,13 @@
 -- The pure tree of each kind of pattern.
-use Rattle.std.proofs.Common.{◌≡◌, ℕ, ◌-◌, ◌<◌, ◌≤◌, List, [], ◌∷◌, length, take, drop, get_or, rules, ap, ◌∙◌, sym, map}
+use Rattle.std.proofs.Common.{◌≡◌, ℕ, ◌-◌, ◌<◌, ◌≤◌, List, [], ◌∷◌, length, take, drop, get_or, rules, refl, ap, ◌∙◌, sym, map}
 use Rattle.abstract_syntax.specs.Expressions.{PatternTree, any_value, bound, literal_pattern, equal_to, set_pattern, sequence_pattern, map_pattern, empty_map_pattern, tuple_pattern, record_pattern, concatenation_pattern, no_patterns, one_pattern, no_maplet_patterns, one_maplet_pattern}
-use Rattle.vdm_tree.specs.declared.pattern.Pattern as rust
-use Rattle.vdm_tree.specs.declared.pattern.Pattern.{Pattern, the_lemmas}
-use Rattle.vdm_tree.specs.declared.pattern.MapletPattern.{MapletPattern}
-use Rattle.vdm_tree.specs.declared.pattern.Pattern.TheVariants.{rolls-AnyValue, rolls-Bound, rolls-Literal, rolls-EqualTo, rolls-Set, rolls-Sequence, rolls-Map, rolls-EmptyMap, rolls-Tuple, rolls-Record, rolls-Concatenation}
+use Rattle.expr_tree.specs.declared.pattern.Pattern as rust
+use Rattle.expr_tree.specs.declared.pattern.Pattern.{Pattern, the_lemmas}
+use Rattle.expr_tree.specs.declared.pattern.MapletPattern.{MapletPattern}
+use Rattle.expr_tree.specs.declared.pattern.Pattern.TheVariants.{rolls-AnyValue, rolls-Bound, rolls-Literal, rolls-EqualTo, rolls-Set, rolls-Sequence, rolls-Map, rolls-EmptyMap, rolls-Tuple, rolls-Record, rolls-Concatenation}
 use Rattle.patterns.proofs.Picked.{headed_slice, no_items}
-use Rattle.vdm_tree.specs.Literals.{literal_view}
-use Rattle.vdm_tree.specs.View.{view_of, pattern_view, pattern_views, pattern_trees, maplet_pattern_view, maplet_pattern_trees}
+use Rattle.type_tree.specs.LiteralView.{literal_view}
+use Rattle.expr_tree.specs.View.{view_of, pattern_view, pattern_views, pattern_trees, maplet_pattern_view, maplet_pattern_trees}
 
 pub view_of-AnyValue : (place : _) → pattern_view (rust.AnyValue place) ≡ any_value place
 view_of-AnyValue place = ap pattern_view (sym (rolls-AnyValue place)) ∙ search (rules, the_lemmas)
@@ -49,6 +49,9 @@ view_headed ps p h e = ap (λ qs. pattern_trees (pattern_views qs)) (headed_slic
 
 pub view_none : (ps : List Pattern) → length ps < 1 → pattern_trees (pattern_views ps) ≡ no_patterns
 view_none ps h = ap (λ qs. pattern_trees (pattern_views qs)) (no_items ps h)
+
+pub maplet_view-is : (m : MapletPattern) → maplet_pattern_view m ≡ record { key = (maplet_pattern_view m).key; value = (maplet_pattern_view m).value }
+maplet_view-is m = refl
 
 pub maplets_headed : (ms : List MapletPattern) (m : MapletPattern) (k v : PatternTree) → 1 ≤ length ms → m ≡ get_or ms 0 m →
     maplet_pattern_view m ≡ record { key = k; value = v } →

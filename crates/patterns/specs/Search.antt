@@ -1,13 +1,14 @@
 -- What a search has found, and what it may still find.
-use Rattle.std.specs.Prelude.{◌≡◌, ℕ, ◌≤◌, Bool, true, false, List, [], ◌∷◌, ◌++◌, map, take, length, reverse, Option}
+use Rattle.std.specs.Prelude.{◌≡◌, ℕ, ◌≤◌, Bool, true, false, List, [], ◌∷◌, ◌++◌, map, take, length, reverse, Option, Some, None}
 use Rattle.std.specs.Bool.{⊤}
 use Rattle.std.specs.List.{filter_map}
 use Rattle.vdm_kinds.specs.declared.name_at.TypeName.{TypeName}
+use Rattle.abstract_syntax.specs.Expressions.{PatternTree}
 use Rattle.abstract_syntax.specs.Values.{ValueTree}
 use Rattle.pattern_meaning.specs.RecordTypes.{RecordType}
 use Rattle.pattern_meaning.specs.Bindings.{Binding, with_way}
 use Rattle.pattern_meaning.specs.Ways.{Way}
-use Rattle.patterns.specs.Todos.{TodoTree, subject_tree, todo_of, all_ways}
+use Rattle.patterns.specs.Todos.{TodoTree, to_match, subject_tree, todo_of, all_ways}
 use Rattle.patterns.specs.declared.bound.Bound.{Bound}
 use Rattle.patterns.specs.declared.bound.Names.{Names}
 use Rattle.patterns.specs.declared.work.Work.{Work}
@@ -104,3 +105,15 @@ module _ (types : TypeName → Option RecordType) where
   pub record GoesBack (on : Bool) (old new : Search) : Type 0 where
     pub same : where_it_goes on new ≡ left old
     pub nested : IsNested (length (binding_of new.names)) (choices_of new)
+
+-- what is bound, where a search found a binding
+abbrev pub outcome : Bool → Search → Option Binding
+outcome true s = Some (binding_of s.names)
+outcome false s = None
+
+-- a search before its first turn
+pub record Begins (p : PatternTree) (given : List ValueTree) (v : ValueTree) (s : Search) : Type 0 where
+  pub work : to_come s.work ≡ to_match p v ∷ []
+  pub values : s.given.now ≡ given
+  pub names : binding_of s.names ≡ []
+  pub others : choices_of s ≡ []

@@ -32,7 +32,7 @@ use Rattle.pattern_meaning.specs.Ways.{
   ways_of_map,
   ways_of_fronts,
 }
-use Rattle.vdm_tree.specs.View.{pattern_view, pattern_views, pattern_trees, maplet_pattern_view, maplet_pattern_trees}
+use Rattle.expr_tree.specs.View.{pattern_view, pattern_views, pattern_trees, maplet_pattern_view, maplet_pattern_trees}
 use Rattle.patterns.specs.declared.subject.Subject.{Subject}
 use Rattle.patterns.specs.declared.subject.Subject.TheVariants.{Whole, Part}
 use Rattle.patterns.specs.declared.todo.Todo.{Todo}

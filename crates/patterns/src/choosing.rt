@@ -2,11 +2,11 @@
 
 ghost use Rattle.std.specs.Prelude.{◌≡◌, ◌↔◌, ◌+◌, ◌++◌, [], IsTrue, ◌<◌, ◌≤◌, IfOk, MatchOption, take, drop, length, get_or};
 ghost use Rattle.patterns.specs.Todos.{at};
-ghost use Rattle.vdm_tree.specs.View.{pattern_view, maplet_pattern_view};
+ghost use Rattle.expr_tree.specs.View.{pattern_view, maplet_pattern_view};
 
 use std::alloc::Global;
 use vdm_kinds::OutOfMemory;
-use vdm_tree::{MapletPattern, Pattern};
+use expr_tree::{MapletPattern, Pattern};
 use vdm_values::Value;
 
 /// The values but for the one of this index.

@@ -1,6 +1,8 @@
 //! The first binding of a pattern with a value.
 #![tactic(auto)]
 
+mod bind_list;
+mod binding;
 mod bound;
 mod choosing;
 mod literals;
@@ -11,3 +13,6 @@ mod search;
 mod subject;
 mod todo;
 mod work;
+
+pub use bind_list::BindList;
+pub use binding::bind;

@@ -4,11 +4,11 @@ ghost use Rattle.std.specs.Prelude.{◌≡◌, ◌↔◌, IsTrue, map};
 ghost use Rattle.abstract_syntax.specs.Values.{character, sequence, value_trees};
 ghost use Rattle.pattern_meaning.specs.Ways.{literal_value};
 ghost use Rattle.patterns.specs.Todos.{subject_tree};
-ghost use Rattle.vdm_tree.specs.Literals.{literal_view};
+ghost use Rattle.type_tree.specs.LiteralView.{literal_view};
 ghost use Rattle.vdm_values.specs.Tree.{tree_of};
 
 use crate::subject::Subject;
-use vdm_tree::Literal;
+use expr_tree::Literal;
 use vdm_values::{Node, Value};
 
 /// Whether the value is that of the literal.

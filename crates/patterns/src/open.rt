@@ -8,8 +8,8 @@ ghost use Rattle.vdm_kinds.specs.declared.name_at.TypeName.{TypeName};
 ghost use Rattle.pattern_meaning.specs.RecordTypes.{RecordType, stands_for};
 ghost use Rattle.pattern_meaning.specs.Ways.{where_true, with_parts, as_many, is_same, literal_value, plainly, count_of_patterns, count_of_maplets, brackets_among, brackets_in, ways_of_items, ways_of_set, ways_of_map, ways_of_fronts};
 ghost use Rattle.patterns.specs.Todos.{Opens, Leads, subject_tree, at};
-ghost use Rattle.vdm_tree.specs.Literals.{literal_view};
-ghost use Rattle.vdm_tree.specs.View.{pattern_view, pattern_views, pattern_trees, maplet_pattern_view, maplet_pattern_trees};
+ghost use Rattle.type_tree.specs.LiteralView.{literal_view};
+ghost use Rattle.expr_tree.specs.View.{pattern_view, pattern_views, pattern_trees, maplet_pattern_view, maplet_pattern_trees};
 
 use crate::literals::is_literal;
 use crate::record_types::{fields, record_type};
@@ -17,7 +17,7 @@ use crate::subject::Subject;
 use crate::todo::{Next, Todo};
 use std::alloc::Global;
 use vdm_kinds::{Name, OutOfMemory};
-use vdm_tree::{Literal, MapletPattern, Pattern, TypeNames};
+use expr_tree::{Literal, MapletPattern, Pattern, TypeNames};
 use vdm_values::Value;
 
 /// What a pattern asks of its value.

@@ -4,11 +4,11 @@ ghost use Rattle.std.specs.Prelude.{◌≡◌, IfOk, Some, option_map};
 ghost use Rattle.pattern_meaning.specs.RecordTypes.{name_in as named_in, stands_for};
 ghost use Rattle.pattern_meaning.specs.Ways.{fields_in, same_type};
 ghost use Rattle.patterns.specs.Todos.{subject_tree, record_type_of_names};
-ghost use Rattle.vdm_tree.specs.Literals.{type_view};
+ghost use Rattle.type_tree.specs.TypeView.{type_view};
 
 use crate::subject::Subject;
 use vdm_kinds::{Name, OutOfMemory, TypeName};
-use vdm_tree::{TypeBody, TypeExpr, TypeNames};
+use expr_tree::{TypeBody, TypeExpr, TypeNames};
 use vdm_values::{Node, Value};
 
 /// The class and the name of the record type that a name stands for in a class.

@@ -2,11 +2,12 @@
 
 ghost use Rattle.std.specs.Prelude.{◌≡◌, ◌∷◌, IfOk, OnOk, drop, length, map, Option};
 ghost use Rattle.vdm_kinds.specs.declared.name_at.TypeName.{TypeName};
+ghost use Rattle.pattern_meaning.specs.Bindings.{first_of};
 ghost use Rattle.pattern_meaning.specs.RecordTypes.{RecordType, stands_for};
 ghost use Rattle.pattern_meaning.specs.Ways.{is_next, where_true};
 ghost use Rattle.patterns.specs.Todos.{all_ways, next_ways, at, subject_tree, todo_of, to_match_items, to_choose, to_choose_pair, to_split};
-ghost use Rattle.patterns.specs.Search.{to_come, binding_of, choices_of, IsNested, Goes, GoesBack, Waits, Ends, after, found};
-ghost use Rattle.vdm_tree.specs.View.{pattern_views, pattern_trees, maplet_pattern_view, maplet_pattern_trees};
+ghost use Rattle.patterns.specs.Search.{to_come, binding_of, choices_of, IsNested, Goes, GoesBack, Waits, Ends, Begins, after, found, outcome};
+ghost use Rattle.expr_tree.specs.View.{pattern_view, pattern_views, pattern_trees, maplet_pattern_view, maplet_pattern_trees};
 
 use crate::bound::{Bound, Names};
 use crate::choosing::{both, is_over, pick, pick_pair, without, without_pair};
@@ -17,7 +18,7 @@ use crate::todo::{Next, Todo};
 use crate::work::Work;
 use std::alloc::Global;
 use vdm_kinds::{Name, OutOfMemory};
-use vdm_tree::{MapletPattern, Pattern, TypeNames};
+use expr_tree::{MapletPattern, Pattern, TypeNames};
 use vdm_values::Value;
 
 /// A search: what is to be matched, the values that are given for it, the names that are bound, and other choices, of which the
@@ -42,6 +43,45 @@ pub(crate) enum Turn {
 }
 
 impl<'t> Search<'t> {
+    /// A search that begins, with the values of the pattern's bracketed expressions.
+    pub(crate) fn new(
+        alloc: Global,
+        pattern: &'t Pattern,
+        value: &'t Value,
+        given: &'t [Value],
+    ) -> Result<Search<'t>, OutOfMemory>
+        ensures { IfOk result (λ s. Begins (pattern_view pattern.now) given.now value.now s) }
+    {
+        let mut work = Work::new(alloc);
+        work.push(Todo::Match(pattern, Subject::Whole(value)))?;
+        Ok(Search {
+            work,
+            given,
+            names: Names::new(alloc),
+            others: Others::new(alloc),
+        })
+    }
+
+    /// Goes on until it has the first binding, or there is none.
+    pub(crate) fn run<N: TypeNames>(
+        &mut self,
+        alloc: Global,
+        scope: Name,
+        names: &N,
+    ) -> Result<bool, OutOfMemory>
+        requires { IsNested (length (binding_of self.old.names)) (choices_of self.old) }
+        ensures { IfOk result (λ any. outcome any self.new ≡ first_of (found (stands_for (N.found names.now) (N.rank names.now) scope) self.old)) }
+    {
+        for step in 0..u64::MAX {
+            match self.turn(alloc, scope, names)? {
+                Turn::Found => return Ok(true),
+                Turn::Nothing => return Ok(false),
+                Turn::On => {}
+            }
+        }
+        Err(OutOfMemory)
+    }
+
     /// One turn: what comes next is matched, or the choice that was made last is left for another.
     pub(crate) fn turn<N: TypeNames>(
         &mut self,

@@ -2,7 +2,7 @@
 
 use crate::subject::Subject;
 use vdm_kinds::Name;
-use vdm_tree::{MapletPattern, Pattern};
+use expr_tree::{MapletPattern, Pattern};
 use vdm_values::Value;
 
 /// A pattern with a value, or patterns with parts of a value.

@@ -1,6 +1,6 @@
 use Rattle.std.proofs.Common.{ap}
 use Rattle.pattern_meaning.specs.Ways.{literal_value}
-use Rattle.vdm_tree.specs.Literals.{literal_view}
+use Rattle.type_tree.specs.LiteralView.{literal_view}
 use Rattle.patterns.proofs.Lists.{texts_are_told}
 use Rattle.patterns.proofs.literals.is_text_literal.Goals as goal
 

@@ -1,7 +1,7 @@
 use Rattle.std.proofs.Common.{◌≡◌, ap, ◌∙◌, map}
 use Rattle.abstract_syntax.specs.Expressions.{any_value, bound, literal_pattern, equal_to, set_pattern, sequence_pattern, map_pattern, empty_map_pattern, tuple_pattern, record_pattern, concatenation_pattern}
-use Rattle.vdm_tree.specs.Literals.{literal_view}
-use Rattle.vdm_tree.specs.View.{view_of, pattern_view, pattern_views, pattern_trees, maplet_pattern_view, maplet_pattern_trees}
+use Rattle.type_tree.specs.LiteralView.{literal_view}
+use Rattle.expr_tree.specs.View.{view_of, pattern_view, pattern_views, pattern_trees, maplet_pattern_view, maplet_pattern_trees}
 use Rattle.patterns.proofs.Views.{view_of-AnyValue, view_of-Bound, view_of-Literal, view_of-EqualTo, view_of-Set, view_of-Sequence, view_of-Map, view_of-EmptyMap, view_of-Tuple, view_of-Record, view_of-Concatenation}
 use Rattle.patterns.proofs.Opening.{opens_any, opens_name, opens_literal, opens_equal, opens_set, opens_sequence, opens_map, opens_empty, opens_tuple, opens_record, opens_fronts}
 use Rattle.patterns.proofs.open.open.Goals as goal

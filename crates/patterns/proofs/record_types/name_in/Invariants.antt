@@ -1,6 +1,6 @@
 use Rattle.std.proofs.Common.{◌≡◌}
 use Rattle.pattern_meaning.specs.RecordTypes.{name_in}
-use Rattle.vdm_tree.specs.Literals.{type_view}
+use Rattle.type_tree.specs.TypeView.{type_view}
 use Rattle.patterns.proofs.record_types.name_in.Given as goal
 
 -- the inner type has the name of the whole

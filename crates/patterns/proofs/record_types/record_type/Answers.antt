@@ -1,5 +1,5 @@
 use Rattle.std.proofs.Common.{ap, sym, ◌∙◌, option_map}
-use Rattle.vdm_tree.specs.ClassView.{type_def_view, type_body_view}
+use Rattle.expr_tree.specs.TypeDefView.{type_def_view, type_body_view}
 use Rattle.patterns.proofs.Following.{follow_next}
 use Rattle.patterns.proofs.record_types.record_type.Goals as goal
 

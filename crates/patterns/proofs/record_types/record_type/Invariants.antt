@@ -1,5 +1,5 @@
 use Rattle.std.proofs.Common.{option_map}
-use Rattle.vdm_tree.specs.ClassView.{type_def_view}
+use Rattle.expr_tree.specs.TypeDefView.{type_def_view}
 use Rattle.patterns.proofs.Following.{Follows}
 use Rattle.patterns.proofs.record_types.record_type.Given as goal
 

@@ -6,5 +6,5 @@ use Rattle.patterns.proofs.subject.is_sequence.Goals as goal
 
 pub returns-in-Seq : goal.returns-in-Seq
 returns-in-Seq c =
-    told_sequences _ _ _ _ _ (c.node.ensures ∙ ap tree_of c.in-Seq.is ∙ ap (λ xs. sequence (value_trees xs)) (sym c.as_slice.ensures.value)) refl
+    told_sequences _ _ _ _ _ (c.node.ensures.tree ∙ ap tree_of c.in-Seq.is ∙ ap (λ xs. sequence (value_trees xs)) (sym c.as_slice.ensures.value)) refl
     c.are_values.ensures

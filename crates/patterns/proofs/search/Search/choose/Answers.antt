@@ -18,3 +18,9 @@ returns c = λ types.
     (subst (λ xs. c.args.from < length (at xs)) c.as_slice.ensures.value c.in-Some.ensures.0)
     (subst (λ xs. c.in-Some.element.now ≡ get_or (at xs) c.args.from c.in-Some.element.now) c.as_slice.ensures.value c.in-Some.ensures.1)
     (at_without _ _ _ _ _ c.in_ok-rest.ensures c.as_slice-2.ensures.value) refl)
+
+pub returns-in_default-pick : goal.returns-in_default-pick
+returns-in_default-pick c = λ types.
+    goes_back types _ _ _ refl refl c.requires
+    (choose_past types _ _ _ _ _ _ _ (view_headed _ _ c.in-len1-up.len_at_least c.pattern-item.is)
+    (subst (λ xs. length (at xs) ≤ c.args.from) c.as_slice.ensures.value c.in_default-pick.ensures))
