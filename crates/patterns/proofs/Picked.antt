@@ -102,3 +102,8 @@ pub at_without : {A : Type 0} (rs xs ys : List (Bor A)) (n m : ℕ) → rs ≡ t
 at_without rs xs ys n m e f =
     ap at e ∙ map-append (λ r. r.now) (take n xs) (drop m xs) ∙
     (λ i. map-take (λ r. r.now) n xs i ++ map-drop (λ r. r.now) m xs i) ∙ ap (λ zs. take n (at zs) ++ drop m (at zs)) f
+
+pub length-drop_add : {A : Type 0} (k : ℕ) (xs : List A) → k ≤ length xs → k + length (drop k xs) ≡ length xs
+length-drop_add zero xs h = let e : zero + length xs ≡ length xs = omega arith in e
+length-drop_add (suc k) [] h = absurd (omega arith)
+length-drop_add (suc k) (x ∷ xs) h = let e : k + length (drop k xs) ≡ length xs = length-drop_add k xs (omega arith) in omega arith

@@ -76,6 +76,48 @@ module _ (types : TypeName → Option RecordType) where
             (choices_of new) binding others (omega arith, n);
       }
 
+  pub waits_nested : (todo : TodoTree) (old mid : Search) → Waits todo old mid → IsNested (length (binding_of old.names)) (choices_of old) →
+      IsNested (length (binding_of mid.names)) (choices_of mid)
+  unfolding IsNested
+  waits_nested todo old mid wait n =
+      nested_alike (binding_of old.names) (binding_of mid.names)
+      (record { todos = todo ∷ to_come old.work; given = old.given.now; kept = length (binding_of old.names) } ∷ choices_of old) (choices_of mid)
+      wait.binding wait.others (omega arith, n)
+
+  -- what goes on while another choice waits
+  pub goes_waits : (todo : TodoTree) (old mid new : Search) (ws first : List Way) → Waits todo old mid → Goes types first true mid new →
+      ws ≡ first ++ all_ways types old.given.now (todo ∷ to_come old.work) → Goes types ws true old new
+  unfolding left found_with found_else
+  goes_waits todo old mid new ws first wait goes all =
+      let b0 : Binding = binding_of old.names in
+      let second : List Way = all_ways types old.given.now (todo ∷ to_come old.work) in
+      record {
+        same =
+            goes.same ∙
+            (λ i. filter_map (with_way (wait.binding i)) first ++ found_else types (wait.binding i) (wait.others i)) ∙
+            (λ i. filter_map (with_way b0) first ++ (filter_map (with_way (take_all b0 i)) second ++ found_else types (take_all b0 i) (choices_of old))) ∙
+            sym (append_assoc (filter_map (with_way b0) first) (filter_map (with_way b0) second) (found_else types b0 (choices_of old))) ∙
+            ap (λ xs. xs ++ found_else types b0 (choices_of old)) (sym (filter_map-append (with_way b0) first second)) ∙
+            ap (λ xs. filter_map (with_way b0) xs ++ found_else types b0 (choices_of old)) (sym all);
+        nested = goes.nested;
+      }
+
+  -- the same by other ways that are equal
+  pub goes_equal : (ws us : List Way) (on : Bool) (old new : Search) → ws ≡ us → Goes types us on old new → Goes types ws on old new
+  goes_equal ws us on old new e h = subst (λ xs. Goes types xs on old new) (sym e) h
+
+  pub goes_waits_two : (todo x y : TodoTree) (old mid new : Search) (ws : List Way) → Waits todo old mid →
+      Goes types (all_ways types mid.given.now (x ∷ y ∷ to_come mid.work)) true mid new →
+      ws ≡ all_ways types old.given.now (x ∷ y ∷ to_come old.work) ++ all_ways types old.given.now (todo ∷ to_come old.work) →
+      Goes types ws true old new
+  goes_waits_two todo x y old mid new ws wait goes all =
+      goes_waits todo old mid new ws (all_ways types old.given.now (x ∷ y ∷ to_come old.work)) wait
+      (goes_equal (all_ways types old.given.now (x ∷ y ∷ to_come old.work)) (all_ways types mid.given.now (x ∷ y ∷ to_come mid.work)) true mid new
+      (λ i. all_ways types (sym wait.given i) (x ∷ y ∷ sym wait.work i)) goes) all
+
+  pub goes_so : (ws : List Way) (on : Bool) (old new : Search) → (on ≡ true) × Goes types ws true old new → Goes types ws on old new
+  goes_so ws on old new h = subst (λ b. Goes types ws b old new) (sym h.0) h.1
+
   pub goes_bound : (old new : Search) (p : Name × ValueTree) → binding_of new.names ≡ binding_of old.names ++ p ∷ [] →
       choices_of new ≡ choices_of old → new.given.now ≡ old.given.now → to_come new.work ≡ to_come old.work →
       IsNested (length (binding_of old.names)) (choices_of old) → None ≡ value_in (binding_of old.names) p.0 →

@@ -1,6 +1,6 @@
 // What is left where one is chosen.
 
-ghost use Rattle.std.specs.Prelude.{◌≡◌, ◌↔◌, ◌+◌, ◌++◌, [], IsTrue, ◌<◌, ◌≤◌, IfOk, MatchOption, take, drop, length, get_or};
+ghost use Rattle.std.specs.Prelude.{◌≡◌, ◌↔◌, ◌+◌, ◌++◌, [], IsTrue, ◌<◌, ◌≤◌, IfOk, MatchOption, take, drop, length, max, get_or};
 ghost use Rattle.patterns.specs.Todos.{at};
 ghost use Rattle.expr_tree.specs.View.{pattern_view, maplet_pattern_view};
 
@@ -80,4 +80,11 @@ pub(crate) fn both(maplet: &MapletPattern) -> (&Pattern, &Pattern)
     ensures { maplet_pattern_view maplet.now ≡ record { key = pattern_view result.0.now; value = pattern_view result.1.now } }
 {
     (&maplet.key, &maplet.value)
+}
+
+/// The greater of two numbers.
+pub(crate) fn greater(a: usize, b: usize) -> usize
+    ensures { result ≡ max a b }
+{
+    if a < b { b } else { a }
 }

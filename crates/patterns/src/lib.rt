@@ -5,6 +5,7 @@ mod bind_list;
 mod binding;
 mod bound;
 mod choosing;
+mod lengths;
 mod literals;
 mod open;
 mod others;

@@ -1,16 +1,18 @@
 // A search for the first binding.
 
-ghost use Rattle.std.specs.Prelude.{◌≡◌, ◌∷◌, IfOk, OnOk, drop, length, map, Option};
+ghost use Rattle.std.specs.Prelude.{◌≡◌, ◌≤◌, ◌∷◌, true, take, IfOk, OnOk, drop, length, map, Option};
+ghost use Rattle.abstract_syntax.specs.Values.{sequence, value_trees};
 ghost use Rattle.vdm_kinds.specs.declared.name_at.TypeName.{TypeName};
 ghost use Rattle.pattern_meaning.specs.Bindings.{first_of};
 ghost use Rattle.pattern_meaning.specs.RecordTypes.{RecordType, stands_for};
 ghost use Rattle.pattern_meaning.specs.Ways.{is_next, where_true};
-ghost use Rattle.patterns.specs.Todos.{all_ways, next_ways, at, subject_tree, todo_of, to_match_items, to_choose, to_choose_pair, to_split};
+ghost use Rattle.patterns.specs.Todos.{all_ways, next_ways, at, subject_tree, todo_of, to_match_items, to_choose, to_choose_pair, to_match, to_split};
 ghost use Rattle.patterns.specs.Search.{to_come, binding_of, choices_of, IsNested, Goes, GoesBack, Waits, Ends, Begins, after, found, outcome};
 ghost use Rattle.expr_tree.specs.View.{pattern_view, pattern_views, pattern_trees, maplet_pattern_view, maplet_pattern_trees};
 
 use crate::bound::{Bound, Names};
-use crate::choosing::{both, is_over, pick, pick_pair, without, without_pair};
+use crate::choosing::{both, greater, is_over, pick, pick_pair, without, without_pair};
+use crate::lengths::fronts;
 use crate::open::open;
 use crate::others::{Other, Others};
 use crate::subject::Subject;
@@ -268,13 +270,35 @@ impl<'t> Search<'t> {
         let [pattern, others @ ..] = patterns else {
             return Ok(is_over(items));
         };
-        if from > items.len() {
+        let Some((least, most)) = fronts(pattern, others, items.len()) else {
+            return Ok(false);
+        };
+        let front = greater(from, least);
+        if front > most {
             return Ok(false);
         }
-        let (front, rest) = items.split_at(from);
-        self.wait(alloc, Todo::Split(patterns, items, from + 1))?;
+        if front == most {
+            return Ok(self.part(pattern, others, items, front)?);
+        }
+        self.wait(alloc, Todo::Split(patterns, items, front + 1))?;
+        Ok(self.part(pattern, others, items, front)?)
+    }
+
+    // The pattern takes a front of so many items, and leaves the rest to the others.
+    fn part(
+        &mut self,
+        pattern: &'t Pattern,
+        others: &'t [Pattern],
+        items: &'t [Value],
+        front: usize,
+    ) -> Result<bool, OutOfMemory>
+        requires nested { IsNested (length (binding_of self.old.names)) (choices_of self.old) }
+        requires within { front ≤ length items.now }
+        ensures { (types : TypeName → Option RecordType) → IfOk result (λ on. (on ≡ true) × Goes types (all_ways types self.old.given.now (to_match (pattern_view pattern.now) (sequence (value_trees (take front items.now))) ∷ to_split (pattern_trees (pattern_views others.now)) (drop front items.now) 0 ∷ to_come self.old.work)) true self.old self.new) }
+    {
+        let (taken, rest) = items.split_at(front);
         self.work.push(Todo::Split(others, rest, 0))?;
-        self.work.push(Todo::Match(pattern, Subject::Part(front)))?;
+        self.work.push(Todo::Match(pattern, Subject::Part(taken)))?;
         Ok(true)
     }
 
