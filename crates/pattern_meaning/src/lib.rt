@@ -1,10 +1,8 @@
 //! Definitions: what a pattern matches, and what its names then stand for. No code.
 #![tactic(auto)]
 
-ghost use Rattle.std.specs.Prelude.{◌≡◌, ℕ, []};
-ghost use Rattle.pattern_meaning.specs.Choices.{choices};
+mod laws;
+mod worked;
 
-/// Nothing is left of an empty list.
-pub fn nothing_to_choose()
-    ensures { choices {A = ℕ} [] ≡ [] }
-{}
+pub use laws::{names_have_their_values, the_first_is_taken, what_is_tried_fits};
+pub use worked::{fronts, records_and_brackets, sets_and_maps};
