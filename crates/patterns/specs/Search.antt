@@ -10,7 +10,7 @@ use Rattle.pattern_meaning.specs.Bindings.{Binding, with_way}
 use Rattle.pattern_meaning.specs.Ways.{Way}
 use Rattle.patterns.specs.Todos.{TodoTree, to_match, subject_tree, todo_of, all_ways}
 use Rattle.patterns.specs.declared.bound.Bound.{Bound}
-use Rattle.patterns.specs.declared.bound.Names.{Names}
+use Rattle.patterns.specs.declared.names.Names.{Names}
 use Rattle.patterns.specs.declared.work.Work.{Work}
 use Rattle.patterns.specs.declared.others.Other.{Other}
 use Rattle.patterns.specs.declared.others.Others.{Others}

@@ -7,6 +7,8 @@ mod bound;
 mod choosing;
 mod lengths;
 mod literals;
+mod names;
+mod naming;
 mod open;
 mod others;
 mod record_types;

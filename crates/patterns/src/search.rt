@@ -10,7 +10,8 @@ ghost use Rattle.patterns.specs.Todos.{all_ways, next_ways, at, subject_tree, to
 ghost use Rattle.patterns.specs.Search.{to_come, binding_of, choices_of, IsNested, Goes, GoesBack, Waits, Ends, Begins, after, found, outcome};
 ghost use Rattle.expr_tree.specs.View.{pattern_view, pattern_views, pattern_trees, maplet_pattern_view, maplet_pattern_trees};
 
-use crate::bound::{Bound, Names};
+use crate::bound::Bound;
+use crate::names::Names;
 use crate::choosing::{both, greater, is_over, pick, pick_pair, without, without_pair};
 use crate::lengths::fronts;
 use crate::open::open;
