@@ -10,7 +10,11 @@ use vdm_kinds::{Halt, Name, OutOfMemory, RunFault};
 use vdm_values::{Node, Value, ValueList};
 
 // The names that are bound, and their values by the number in them or by the number of their items.
-fn bound(alloc: Global, pattern: &Pattern, value: &Value) -> Result<Vec<(u32, i128)>, Halt<RunFault>> {
+fn bound(
+    alloc: Global,
+    pattern: &Pattern,
+    value: &Value,
+) -> Result<Vec<(u32, i128)>, Halt<RunFault>> {
     let given = ValueList::from_vec(Vec::new(alloc));
     let mut pairs = Vec::new(alloc);
     match bind(alloc, pattern, value, &given, Name(0), &NoTypes)? {
@@ -50,7 +54,10 @@ fn what_stands_between_two_items(rt: HostRuntime) -> Result<(), Fail> {
     let pattern = middle(rt.alloc())?;
     let value = Value::new(Node::Seq(numbers(rt.alloc(), 10_000)?));
     let pairs = bound(rt.alloc(), &pattern, &value)?;
-    assert_eq!(rt; pairs.as_slice(), [(0, 0), (1, 9_998), (2, 9_999)].as_slice());
+    assert_eq!(rt;
+        pairs.as_slice(),
+        [(0, 0), (1, 9_998), (2, 9_999)].as_slice()
+    );
     Ok(())
 }
 

@@ -1,5 +1,5 @@
 -- What is tried fits, and all that fits is tried.
-use Rattle.std.proofs.Common.{◌≡◌, ℕ, zero, suc, ◌+◌, ◌<◌, ◌⊎◌, ⊎_elim, Bool, true, false, List, [], ◌∷◌, ◌++◌, length, drop, refl, ap, sym, ◌∙◌, subst, arith, Contains, Option, Some, None, length-append, true≢false}
+use Rattle.std.proofs.Common.{◌≡◌, ℕ, zero, suc, ◌+◌, ⊎_elim, true, List, [], ◌∷◌, ◌++◌, length, drop, refl, ap, sym, ◌∙◌, subst, arith, Contains, Option, Some, length-append, true≢false}
 use Rattle.std.proofs.lemmas.Bool.Decides.{nat_tests}
 use Rattle.vdm_kinds.specs.declared.name_at.TypeName.{TypeName}
 use Rattle.abstract_syntax.specs.Expressions.{PatternTree, PatternTrees, MapletPatterns, any_value, bound, literal_pattern, equal_to, set_pattern, sequence_pattern, map_pattern, empty_map_pattern, tuple_pattern, record_pattern, concatenation_pattern, no_patterns, one_pattern, no_maplet_patterns, one_maplet_pattern}
@@ -9,8 +9,8 @@ use Rattle.abstract_syntax.specs.ValueCode.{value_code}
 use Rattle.abstract_syntax.specs.SameBy.{same_by-decides}
 use Rattle.pattern_meaning.specs.Choices.{choices, splits}
 use Rattle.pattern_meaning.specs.RecordTypes.{RecordType}
-use Rattle.pattern_meaning.specs.Ways.{Way, plainly, where_true, with_parts, crossed, as_many, is_same, is_next, literal_value, brackets, count_of_patterns, count_of_maplets, items_in, elements_in, components_in, entries_in, fields_in, ways, ways_of_items, ways_of_set, ways_of_map, ways_of_fronts}
-use Rattle.pattern_meaning.specs.Fits.{Both, OneOf, Cut, HasParts, Fits, FitsItems, FitsSet, FitsMap, FitsFronts}
+use Rattle.pattern_meaning.specs.Ways.{Way, plainly, where_true, crossed, as_many, is_same, is_next, literal_value, brackets, count_of_patterns, count_of_maplets, items_in, elements_in, components_in, entries_in, fields_in, ways, ways_of_items, ways_of_set, ways_of_map, ways_of_fronts}
+use Rattle.pattern_meaning.specs.Fits.{Fits, FitsItems, FitsSet, FitsMap, FitsFronts}
 use Rattle.pattern_meaning.proofs.Members.{at_head, in_nothing, at_head_or, in_flat_map, from_flat_map, in_crossed, from_crossed, in_plainly, from_plainly, from_where_true, in_where_true, from_with_parts, in_with_parts, from_choices, in_choices, from_splits, in_splits}
 
 same_to : (v w : ValueTree) → is_same v w ≡ true → v ≡ w
@@ -101,8 +101,8 @@ module _ (types : TypeName → Option RecordType) where
         let s = from_choices vs a.item a.there in
         let b = from_crossed (ways types p given a.item.0) (ways_of_set types ps (drop (brackets p) given) a.item.1) w a.is in
         let count : count_of_patterns ps ≡ length a.item.1 =
-            (let l : length vs ≡ suc (length (s.before ++ s.behind)) = ap length s.whole ∙ length_around s.before s.behind a.item.0 in
-            let m : length a.item.1 ≡ length (s.before ++ s.behind) = ap length s.others in omega arith) in
+        (let l : length vs ≡ suc (length (s.before ++ s.behind)) = ap length s.whole ∙ length_around s.before s.behind a.item.0 in
+        let m : length a.item.1 ≡ length (s.before ++ s.behind) = ap length s.others in omega arith) in
         record {
           before = s.before;
           item = a.item.0;
@@ -123,16 +123,16 @@ module _ (types : TypeName → Option RecordType) where
     tried_map no_maplet_patterns given es w n h = (no_length es n, from_plainly w h)
     tried_map (one_maplet_pattern p q ms) given es w n h =
         let a = from_flat_map
-            (λ c. crossed (ways types p given c.0.0) (crossed (ways types q (drop (brackets p) given) c.0.1)
-            (ways_of_map types ms (drop (brackets q) (drop (brackets p) given)) c.1))) (choices es) w h in
+        (λ c. crossed (ways types p given c.0.0) (crossed (ways types q (drop (brackets p) given) c.0.1)
+        (ways_of_map types ms (drop (brackets q) (drop (brackets p) given)) c.1))) (choices es) w h in
         let s = from_choices es a.item a.there in
         let b = from_crossed (ways types p given a.item.0.0) (crossed (ways types q (drop (brackets p) given) a.item.0.1)
-            (ways_of_map types ms (drop (brackets q) (drop (brackets p) given)) a.item.1)) w a.is in
+        (ways_of_map types ms (drop (brackets q) (drop (brackets p) given)) a.item.1)) w a.is in
         let d = from_crossed (ways types q (drop (brackets p) given) a.item.0.1)
-            (ways_of_map types ms (drop (brackets q) (drop (brackets p) given)) a.item.1) b.behind b.others in
+        (ways_of_map types ms (drop (brackets q) (drop (brackets p) given)) a.item.1) b.behind b.others in
         let count : count_of_maplets ms ≡ length a.item.1 =
-            (let l : length es ≡ suc (length (s.before ++ s.behind)) = ap length s.whole ∙ length_around s.before s.behind a.item.0 in
-            let m : length a.item.1 ≡ length (s.before ++ s.behind) = ap length s.others in omega arith) in
+        (let l : length es ≡ suc (length (s.before ++ s.behind)) = ap length s.whole ∙ length_around s.before s.behind a.item.0 in
+        let m : length a.item.1 ≡ length (s.before ++ s.behind) = ap length s.others in omega arith) in
         record {
           before = s.before;
           item = a.item.0;
@@ -160,7 +160,7 @@ module _ (types : TypeName → Option RecordType) where
     tried_fronts no_patterns given (v ∷ vs) w h = absurd (in_nothing w h)
     tried_fronts (one_pattern p ps) given vs w h =
         let a = from_flat_map (λ s. crossed (ways types p given (sequence (value_trees s.0))) (ways_of_fronts types ps (drop (brackets p) given) s.1))
-            (splits vs) w h in
+        (splits vs) w h in
         let b = from_crossed (ways types p given (sequence (value_trees a.item.0))) (ways_of_fronts types ps (drop (brackets p) given) a.item.1) w a.is in
         record {
           front = a.item.0;

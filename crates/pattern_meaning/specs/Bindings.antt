@@ -1,5 +1,5 @@
 -- The bindings of a pattern with a value: the ways in which equal names stand for equal values.
-use Rattle.std.specs.Prelude.{◌≡◌, nat_eq, if◌then◌else◌, List, [], ◌∷◌, ◌++◌, All, Contains, Option, Some, None}
+use Rattle.std.specs.Prelude.{nat_eq, if◌then◌else◌, List, [], ◌∷◌, ◌++◌, All, Contains, Option, Some, None}
 use Rattle.std.specs.Option.{option_and_then}
 use Rattle.std.specs.List.{filter_map}
 use Rattle.std.specs.Map.{lookup}

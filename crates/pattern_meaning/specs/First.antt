@@ -1,5 +1,5 @@
 -- The first of the ways in which equal names stand for equal values.
-use Rattle.std.specs.Prelude.{◌≡◌, List, [], ◌∷◌, ◌++◌, All, Option, Some, None}
+use Rattle.std.specs.Prelude.{◌≡◌, List, [], ◌∷◌, ◌++◌, All, Some, None}
 use Rattle.pattern_meaning.specs.Ways.{Way}
 use Rattle.pattern_meaning.specs.Bindings.{Binding, with_way}
 

@@ -1,6 +1,5 @@
 -- What it is that a pattern matches a value, whatever is tried first: which of its names stand for what.
 use Rattle.std.specs.Prelude.{◌≡◌, List, [], ◌∷◌, ◌++◌, drop, Option, Some}
-use Rattle.vdm_kinds.specs.declared.name.Name.{Name}
 use Rattle.vdm_kinds.specs.declared.name_at.TypeName.{TypeName}
 use Rattle.abstract_syntax.specs.Expressions.{
   PatternTree,

@@ -161,7 +161,7 @@ module _ (types : TypeName → Option RecordType) where
   skipped p ps given vs n m ts h l not =
       let e : n + (m - n) ≡ m = omega arith in
       let f : List ValueTree × List ValueTree → List Way =
-          λ s. crossed (ways types p given (sequence (value_trees s.0))) (ways_of_fronts types ps (drop (brackets p) given) s.1) in
+      λ s. crossed (ways types p given (sequence (value_trees s.0))) (ways_of_fronts types ps (drop (brackets p) given) s.1) in
       ap (λ ws. crossed ws (all_ways types (drop (brackets p + brackets_among ps) given) ts))
       (skip_to f vs (m - n) n (omega arith) (λ k a b c. unfit types p ps given vs k c (not k a (omega arith))) ∙
       ap (λ k. flat_map f (drop k (splits vs))) e)

@@ -29,10 +29,11 @@ some_value {x = x} e = ap (λ o. unwrap_or o x) e
 pub texts_are_told : (r : Bool) (w : ValueTree) (cs characters : List ℕ) (vs : List ValueTree) →
     w ≡ sequence (value_trees (map character characters)) → cs ≡ characters →
     (IsTrue r ↔ vs ≡ map character cs) → (IsTrue r ↔ sequence (value_trees vs) ≡ w)
-texts_are_told r w cs characters vs e same h =
-    (λ t. ap (λ xs. sequence (value_trees xs)) (h.0 t ∙ ap (map character) same) ∙ sym e,
-    λ t. h.1 (some_value (sym (items_in_sequence vs) ∙ ap items_in (t ∙ e) ∙ items_in_sequence (map character characters)) ∙
-    ap (map character) (sym same)))
+texts_are_told r w cs characters vs e same h = (
+  λ t. ap (λ xs. sequence (value_trees xs)) (h.0 t ∙ ap (map character) same) ∙ sym e,
+  λ t. h.1 (some_value (sym (items_in_sequence vs) ∙ ap items_in (t ∙ e) ∙ items_in_sequence (map character characters)) ∙
+      ap (map character) (sym same)),
+)
 
 -- the fields of a record whose type passes the test
 pub fields_found : (t : RecordType) (class name : Name) (vs ws : List ValueTree) (v : ValueTree) →
@@ -63,5 +64,7 @@ pub told_sequences : (r : Bool) (v w : ValueTree) (xs ys : List ValueTree) → v
 told_sequences r v w xs ys e f h = told r v w (sequence (value_trees xs)) (sequence (value_trees ys)) e f (same_sequences r xs ys h)
 
 pub ruleset comparing = (same_sequences, turned, value_list-value_trees)
+
 pub ruleset cutting = (map-take)
+
 pub ruleset parts = (items_in_sequence, elements_in_set, components_in_tuple, entries_in_map)

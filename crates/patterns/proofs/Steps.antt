@@ -151,7 +151,7 @@ module _ (types : TypeName → Option RecordType) where
       let b0 : Binding = binding_of old.names in
       let ws : List Way = all_ways types old.given.now (to_come old.work) in
       let step : with_pair b0 p ≡ None =
-          ap (put b0 p) (sym there) ∙ ap (λ t. if t then Some b0 else None) (is_same-no v p.1 (λ e. true≢false (sym (h.1 e)))) in
+      ap (put b0 p) (sym there) ∙ ap (λ t. if t then Some b0 else None) (is_same-no v p.1 (λ e. true≢false (sym (h.1 e)))) in
       record {
         same = ap (λ xs. xs ++ found_else types b0 (choices_of old)) (sym (nothing_behind b0 p ws step));
         nested = n;

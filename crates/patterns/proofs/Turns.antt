@@ -91,14 +91,14 @@ module _ (types : TypeName → Option RecordType) where
   pair_step p q ms ns x rest es given n m ts e h is r one =
       let g : List ValueTree = drop (brackets p) given in
       let f : Entry × List Entry → List Way =
-          λ c. crossed (ways types p given c.0.0) (crossed (ways types q (drop (brackets p) given) c.0.1)
-          (ways_of_map types ms (drop (brackets q) (drop (brackets p) given)) c.1)) in
+      λ c. crossed (ways types p given c.0.0) (crossed (ways types q (drop (brackets p) given) c.0.1)
+      (ways_of_map types ms (drop (brackets q) (drop (brackets p) given)) c.1)) in
       let more : List Way = all_ways types (drop (brackets p + brackets q + brackets_in ms) given) ts in
       let next : m ≡ suc n = omega arith in
       let left : take n es ++ drop (suc n) es ≡ rest = ap (λ k. take n es ++ drop k es) (sym next) ∙ sym r in
       let dropped : drop (brackets p + brackets q + brackets_in ms) given ≡ drop (brackets_in ms) (drop (brackets q) (drop (brackets p) given)) =
-          drop_more (brackets p + brackets q) (brackets_in ms) given ∙
-          ap (drop (brackets_in ms)) (drop_more (brackets p) (brackets q) given) in
+      drop_more (brackets p + brackets q) (brackets_in ms) given ∙
+      ap (drop (brackets_in ms)) (drop_more (brackets p) (brackets q) given) in
       ap (λ rs. all_ways types given (to_choose_pair rs es n ∷ ts)) e ∙
       ap (λ cs. crossed (flat_map f cs) more) (choices_at es n x h is ∙ (λ i. (x, left i) ∷ drop (sym next i) (choices es))) ∙
       crossed-append (f (x, rest)) (flat_map f (drop m (choices es))) more ∙
@@ -139,7 +139,7 @@ module _ (types : TypeName → Option RecordType) where
   unfolding all_ways
   split_step p ps qs front rest vs given n m ts e h is r one =
       let f : List ValueTree × List ValueTree → List Way =
-          λ s. crossed (ways types p given (sequence (value_trees s.0))) (ways_of_fronts types ps (drop (brackets p) given) s.1) in
+      λ s. crossed (ways types p given (sequence (value_trees s.0))) (ways_of_fronts types ps (drop (brackets p) given) s.1) in
       let more : List Way = all_ways types (drop (brackets p + brackets_among ps) given) ts in
       let next : m ≡ suc n = omega arith in
       ap (λ rs. all_ways types given (to_split rs vs n ∷ ts)) e ∙

@@ -4,9 +4,9 @@ ghost use Rattle.std.specs.Prelude.{◌≡◌, ◌↔◌, ◌+◌, ◌++◌, [],
 ghost use Rattle.patterns.specs.Todos.{at};
 ghost use Rattle.expr_tree.specs.View.{pattern_view, maplet_pattern_view};
 
+use expr_tree::{MapletPattern, Pattern};
 use std::alloc::Global;
 use vdm_kinds::OutOfMemory;
-use expr_tree::{MapletPattern, Pattern};
 use vdm_values::Value;
 
 /// The values but for the one of this index.

@@ -15,9 +15,9 @@ use crate::literals::is_literal;
 use crate::record_types::{fields, record_type};
 use crate::subject::Subject;
 use crate::todo::{Next, Todo};
+use expr_tree::{Literal, MapletPattern, Pattern, TypeNames};
 use std::alloc::Global;
 use vdm_kinds::{Name, OutOfMemory};
-use expr_tree::{Literal, MapletPattern, Pattern, TypeNames};
 use vdm_values::Value;
 
 /// What a pattern asks of its value.

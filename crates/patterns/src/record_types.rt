@@ -7,8 +7,8 @@ ghost use Rattle.patterns.specs.Todos.{subject_tree, record_type_of_names};
 ghost use Rattle.type_tree.specs.TypeView.{type_view};
 
 use crate::subject::Subject;
-use vdm_kinds::{Name, OutOfMemory, TypeName};
 use expr_tree::{TypeBody, TypeExpr, TypeNames};
+use vdm_kinds::{Name, OutOfMemory, TypeName};
 use vdm_values::{Node, Value};
 
 /// The class and the name of the record type that a name stands for in a class.

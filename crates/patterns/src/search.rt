@@ -11,17 +11,17 @@ ghost use Rattle.patterns.specs.Search.{to_come, binding_of, choices_of, IsNeste
 ghost use Rattle.expr_tree.specs.View.{pattern_view, pattern_views, pattern_trees, maplet_pattern_view, maplet_pattern_trees};
 
 use crate::bound::Bound;
-use crate::names::Names;
 use crate::choosing::{both, greater, is_over, pick, pick_pair, without, without_pair};
 use crate::lengths::fronts;
+use crate::names::Names;
 use crate::open::open;
 use crate::others::{Other, Others};
 use crate::subject::Subject;
 use crate::todo::{Next, Todo};
 use crate::work::Work;
+use expr_tree::{MapletPattern, Pattern, TypeNames};
 use std::alloc::Global;
 use vdm_kinds::{Name, OutOfMemory};
-use expr_tree::{MapletPattern, Pattern, TypeNames};
 use vdm_values::Value;
 
 /// A search: what is to be matched, the values that are given for it, the names that are bound, and other choices, of which the
@@ -110,11 +110,7 @@ impl<'t> Search<'t> {
         if on {
             return Turn::On;
         }
-        if self.back() {
-            Turn::On
-        } else {
-            Turn::Nothing
-        }
+        if self.back() { Turn::On } else { Turn::Nothing }
     }
 
     // Matches what came next.
@@ -186,11 +182,7 @@ impl<'t> Search<'t> {
     }
 
     // The first of the items with the first of the patterns, then the others.
-    fn items(
-        &mut self,
-        patterns: &'t [Pattern],
-        items: &'t [Value],
-    ) -> Result<bool, OutOfMemory>
+    fn items(&mut self, patterns: &'t [Pattern], items: &'t [Value]) -> Result<bool, OutOfMemory>
         requires { IsNested (length (binding_of self.old.names)) (choices_of self.old) }
         ensures { (types : TypeName → Option RecordType) → IfOk result (λ on. Goes types (all_ways types self.old.given.now (to_match_items (pattern_trees (pattern_views patterns.now)) items.now ∷ to_come self.old.work)) on self.old self.new) }
     {
@@ -251,8 +243,7 @@ impl<'t> Search<'t> {
         let (key, value) = both(pattern);
         self.wait(alloc, Todo::ChoosePair(patterns, left, from + 1))?;
         self.work.push(Todo::ChoosePair(others, rest, 0))?;
-        self.work
-            .push(Todo::Match(value, Subject::Whole(&pair.1)))?;
+        self.work.push(Todo::Match(value, Subject::Whole(&pair.1)))?;
         self.work.push(Todo::Match(key, Subject::Whole(&pair.0)))?;
         Ok(true)
     }

@@ -1,8 +1,8 @@
 // What is still to be matched.
 
 use crate::subject::Subject;
-use vdm_kinds::Name;
 use expr_tree::{MapletPattern, Pattern};
+use vdm_kinds::Name;
 use vdm_values::Value;
 
 /// A pattern with a value, or patterns with parts of a value.

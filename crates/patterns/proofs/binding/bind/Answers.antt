@@ -8,9 +8,11 @@ pub run-requires : goal.run-requires
 run-requires g c = begins_nested (λ t. None) _ _ _ _ c.in_ok-search.ensures
 
 pub returns-then-branch-clause-bound : goal.returns-then-branch-clause-bound
-returns-then-branch-clause-bound g c =
-    (bind_found _ _ _ _ _ _ _ _ _ _ c.in_ok-search.ensures c.as_slice.ensures c.in_ok-run.ensures c.if-branch.true c.bound.ensures
-    c.in_ok-copies.ensures.made.0, c.in_ok-copies.ensures.made.1)
+returns-then-branch-clause-bound g c = (
+  bind_found _ _ _ _ _ _ _ _ _ _ c.in_ok-search.ensures c.as_slice.ensures c.in_ok-run.ensures c.if-branch.true c.bound.ensures
+      c.in_ok-copies.ensures.made.0,
+  c.in_ok-copies.ensures.made.1,
+)
 
 pub returns-clause-bound : goal.returns-clause-bound
 returns-clause-bound g c =

@@ -1,4 +1,4 @@
-use Rattle.std.proofs.Common.{◌≡◌, ◌+◌, ◌++◌, take, drop, min}
+use Rattle.std.proofs.Common.{◌≡◌, ◌+◌, ◌++◌, take, drop}
 use Rattle.patterns.proofs.choosing.without_pair.Given as goal
 
 -- those so far, but for the one of the index

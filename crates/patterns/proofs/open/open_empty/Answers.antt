@@ -1,4 +1,4 @@
-use Rattle.std.proofs.Common.{ap, ◌∙◌, sym, refl, option_map}
+use Rattle.std.proofs.Common.{ap, option_map}
 use Rattle.patterns.proofs.Opening.{leads_empty}
 use Rattle.patterns.proofs.open.open_empty.Goals as goal
 

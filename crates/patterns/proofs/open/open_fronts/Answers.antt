@@ -1,4 +1,4 @@
-use Rattle.std.proofs.Common.{ap, ◌∙◌, sym, refl, option_map}
+use Rattle.std.proofs.Common.{ap, option_map}
 use Rattle.patterns.proofs.Opening.{leads_fronts}
 use Rattle.patterns.proofs.open.open_fronts.Goals as goal
 

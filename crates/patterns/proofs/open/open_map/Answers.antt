@@ -1,4 +1,4 @@
-use Rattle.std.proofs.Common.{ap, ◌∙◌, sym, refl, option_map}
+use Rattle.std.proofs.Common.{ap, ◌∙◌, sym, option_map}
 use Rattle.patterns.proofs.Opening.{leads_parts, leads_apart, count_of_maplet_views, choose_pair_from_the_first}
 use Rattle.patterns.proofs.open.open_map.Goals as goal
 

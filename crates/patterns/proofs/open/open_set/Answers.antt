@@ -1,4 +1,4 @@
-use Rattle.std.proofs.Common.{ap, ◌∙◌, sym, refl, option_map}
+use Rattle.std.proofs.Common.{ap, ◌∙◌, sym, option_map}
 use Rattle.patterns.proofs.Opening.{leads_parts, leads_apart, count_of_views, choose_from_the_first}
 use Rattle.patterns.proofs.open.open_set.Goals as goal
 

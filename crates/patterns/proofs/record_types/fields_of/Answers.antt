@@ -1,4 +1,4 @@
-use Rattle.std.proofs.Common.{◌≡◌, ap, sym, ◌∙◌}
+use Rattle.std.proofs.Common.{ap, sym, ◌∙◌}
 use Rattle.vdm_values.specs.Tree.{tree_of}
 use Rattle.patterns.proofs.Lists.{fields_found}
 use Rattle.patterns.proofs.record_types.fields_of.Goals as goal

@@ -1,5 +1,5 @@
-use Rattle.std.proofs.Common.{◌≡◌, ◌≤◌, ◌<◌, ◌+◌, ◌∷◌, ap, sym, ◌∙◌, refl, length, option_map, arith}
-use Rattle.patterns.specs.Todos.{all_ways, at, subject_tree}
+use Rattle.std.proofs.Common.{ap, sym, ◌∙◌, refl, option_map}
+use Rattle.patterns.specs.Todos.{subject_tree}
 use Rattle.patterns.proofs.Steps.{goes_by_test, goes_bound}
 use Rattle.patterns.proofs.search.Search.bind.Goals as goal
 

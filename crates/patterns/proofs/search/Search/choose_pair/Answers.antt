@@ -1,5 +1,5 @@
-use Rattle.std.proofs.Common.{◌≡◌, ◌≤◌, ◌<◌, ◌+◌, ◌∷◌, ap, sym, ◌∙◌, refl, length, get_or, subst, option_map, arith}
-use Rattle.patterns.specs.Todos.{all_ways, next_ways, at, subject_tree, todo_of}
+use Rattle.std.proofs.Common.{◌≡◌, ◌≤◌, ◌<◌, ap, refl, length, get_or, subst}
+use Rattle.patterns.specs.Todos.{all_ways, at}
 use Rattle.patterns.proofs.Steps.{goes_on, goes_back, goes_both, put_three_behind}
 use Rattle.patterns.proofs.Turns.{pair_none, pair_past, pair_step}
 use Rattle.patterns.proofs.Picked.{at_without}
@@ -14,7 +14,7 @@ pub returns : goal.returns
 returns c = λ types.
     goes_both types _ _ _ _ _ _ c.in_ok-wait.ensures refl refl refl c.requires
     (ap (all_ways types _) (put_three_behind _ _ _ _ _ _ _ _ c.in_ok-push-3.ensures c.in_ok-push-2.ensures c.in_ok-push.ensures c.in_ok-wait.ensures.work))
-    (pair_step types _ _ _ _ _ _ _ _ _ _ _ (maplets_headed _ _ _ _ c.in-len1-up.len_at_least c.pattern-item.is c.both.ensures) 
+    (pair_step types _ _ _ _ _ _ _ _ _ _ _ (maplets_headed _ _ _ _ c.in-len1-up.len_at_least c.pattern-item.is c.both.ensures)
     (subst (λ xs. c.args.from < length (at xs)) c.as_slice.ensures.value c.in-Some.ensures.0)
     (subst (λ xs. c.in-Some.pair.now ≡ get_or (at xs) c.args.from c.in-Some.pair.now) c.as_slice.ensures.value c.in-Some.ensures.1)
     (at_without _ _ _ _ _ c.in_ok-rest.ensures c.as_slice-2.ensures.value) refl)

@@ -1,5 +1,4 @@
-use Rattle.std.proofs.Common.{◌≡◌, ◌≤◌, ◌<◌, ◌+◌, ◌∷◌, ap, sym, ◌∙◌, refl, length, option_map, arith}
-use Rattle.patterns.specs.Todos.{all_ways, at, subject_tree}
+use Rattle.std.proofs.Common.{refl}
 use Rattle.patterns.proofs.Picked.{headed_slice}
 use Rattle.patterns.proofs.Steps.{goes_by_value}
 use Rattle.patterns.proofs.search.Search.compare.Goals as goal

@@ -1,5 +1,5 @@
-use Rattle.std.proofs.Common.{◌≡◌, ◌≤◌, ◌<◌, ◌+◌, ◌∷◌, ap, sym, ◌∙◌, refl, length, option_map, arith}
-use Rattle.patterns.specs.Todos.{all_ways, next_ways, at, subject_tree, todo_of}
+use Rattle.std.proofs.Common.{ap}
+use Rattle.patterns.specs.Todos.{todo_of}
 use Rattle.patterns.proofs.Steps.{goes_as}
 use Rattle.patterns.proofs.search.Search.follow.Goals as goal
 

@@ -1,5 +1,5 @@
-use Rattle.std.proofs.Common.{◌≡◌, ◌≤◌, ◌<◌, ◌+◌, ◌∷◌, ap, sym, ◌∙◌, refl, length, option_map, arith}
-use Rattle.patterns.specs.Todos.{all_ways, at, subject_tree}
+use Rattle.std.proofs.Common.{ap, ◌∙◌, refl}
+use Rattle.patterns.specs.Todos.{all_ways}
 use Rattle.patterns.proofs.Picked.{headed_slice, no_items}
 use Rattle.patterns.proofs.Steps.{goes_on, goes_back, put_two}
 use Rattle.patterns.proofs.Turns.{items_none, items_short, items_step}

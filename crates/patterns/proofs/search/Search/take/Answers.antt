@@ -1,6 +1,6 @@
-use Rattle.std.proofs.Common.{◌≡◌, ◌≤◌, ◌<◌, ◌+◌, ◌∷◌, ap, sym, ◌∙◌, refl, length, option_map, arith}
+use Rattle.std.proofs.Common.{ap, sym, refl}
 use Rattle.patterns.specs.Search.{to_come}
-use Rattle.patterns.specs.Todos.{all_ways, next_ways, at, subject_tree, todo_of}
+use Rattle.patterns.specs.Todos.{all_ways, next_ways}
 use Rattle.patterns.proofs.Steps.{goes_on, goes_next}
 use Rattle.patterns.proofs.search.Search.take.Goals as goal
 

@@ -1,5 +1,5 @@
-use Rattle.std.proofs.Common.{◌≡◌, ◌≤◌, ◌<◌, ◌+◌, ◌∷◌, ap, sym, ◌∙◌, refl, length, option_map, arith}
-use Rattle.patterns.specs.Todos.{all_ways, next_ways, at, subject_tree, todo_of}
+use Rattle.std.proofs.Common.{◌∷◌, ap, ◌∙◌, refl}
+use Rattle.patterns.specs.Todos.{todo_of}
 use Rattle.patterns.specs.Search.{choices_in}
 use Rattle.patterns.proofs.search.Search.wait.Goals as goal
 
