@@ -1,5 +1,5 @@
 -- The place that the map has tells what a name stands for.
-use Rattle.std.proofs.Common.{◌≡◌, ℕ, zero, suc, ◌+◌, ◌<◌, ◌≤◌, ◌⊎◌, inl, inr, ⊎_elim, Bool, true, false, nat_eq, cond, List, [], ◌∷◌, ◌++◌, map, length, get_or, refl, ap, sym, ◌∙◌, subst, arith, Option, Some, None, option_map, slice_get, unwrap_or, if◌then◌else◌, length-append}
+use Rattle.std.proofs.Common.{◌≡◌, ℕ, zero, suc, ◌+◌, ◌<◌, ◌≤◌, ◌⊎◌, inl, inr, ⊎_elim, Bool, true, false, nat_eq, cond, List, [], ◌∷◌, ◌++◌, map, length, take, get_or, refl, ap, sym, ◌∙◌, subst, arith, Option, Some, None, option_map, slice_get, unwrap_or, if◌then◌else◌, length-append}
 use Rattle.std.proofs.lemmas.Bool.{cases_eq}
 use Rattle.std.specs.Option.{option_and_then}
 use Rattle.std.proofs.lemmas.Bool.Decides.{nat_tests}
@@ -117,3 +117,23 @@ finds_more bs cs b now found place finds absent updates last e k h =
     ap (λ t. cond t (Some place) (found (get_or (numbers_of bs) k 0)))
     (turned (get_or (numbers_of bs) k 0) b.name.0 (not_among bs b.name absent k lt)) ∙ finds k lt)
     (cases_eq k (length bs))
+
+numbers_take : (bs : List Bound) (n k : ℕ) → k < length (take n bs) → get_or (numbers_of (take n bs)) k 0 ≡ get_or (numbers_of bs) k 0
+numbers_take bs zero k h = absurd (omega arith)
+numbers_take [] (suc n) k h = absurd (omega arith)
+numbers_take (b ∷ bs) (suc n) zero h = refl
+numbers_take (b ∷ bs) (suc n) (suc k) h = numbers_take bs n k (omega arith)
+
+no_longer : (bs : List Bound) (n : ℕ) → length (take n bs) ≤ length bs
+no_longer bs zero = omega arith
+no_longer [] (suc n) = omega arith
+no_longer (b ∷ bs) (suc n) = let h : length (take n bs) ≤ length bs = no_longer bs n in omega arith
+
+-- the places of the names that stay
+pub finds_fewer : (bs cs : List Bound) (n : ℕ) (found : ℕ → Option ℕ) → ((k : ℕ) → k < length bs → found (get_or (numbers_of bs) k 0) ≡ Some k) →
+    cs ≡ take n bs → (k : ℕ) → k < length cs → found (get_or (numbers_of cs) k 0) ≡ Some k
+finds_fewer bs cs n found finds e k h =
+    let same : length cs ≡ length (take n bs) = ap length e in
+    let less : length (take n bs) ≤ length bs = no_longer bs n in
+    let lt : k < length (take n bs) = omega arith in
+    ap (λ xs. found (get_or (numbers_of xs) k 0)) e ∙ ap found (numbers_take bs n k lt) ∙ finds k (omega arith)
