@@ -3,12 +3,12 @@ use Rattle.std.proofs.Common.{◌≡◌, ℕ, zero, suc, ◌+◌, ◌-◌, ◌<�
 use Rattle.std.proofs.lemmas.Bool.{cases_eq, cases_order}
 use Rattle.std.proofs.lemmas.List.Folds.{flat_map-map}
 use Rattle.vdm_kinds.specs.declared.name_at.TypeName.{TypeName}
-use Rattle.abstract_syntax.specs.Literals.{LiteralTree, whole_literal, character_literal, text_literal, quote_literal, boolean_literal, nil_literal}
+use Rattle.abstract_syntax.specs.Literals.{whole_literal, character_literal, text_literal, quote_literal, boolean_literal, nil_literal}
 use Rattle.abstract_syntax.specs.Expressions.{PatternTree, PatternTrees, any_value, bound, literal_pattern, equal_to, set_pattern, sequence_pattern, map_pattern, empty_map_pattern, tuple_pattern, record_pattern, concatenation_pattern, no_patterns, one_pattern}
 use Rattle.abstract_syntax.specs.Values.{ValueTree, character, sequence, value_trees}
 use Rattle.pattern_meaning.specs.Choices.{splits}
 use Rattle.pattern_meaning.specs.RecordTypes.{RecordType}
-use Rattle.pattern_meaning.specs.Ways.{Way, plainly, where_true, with_parts, crossed, as_many, is_same, brackets, brackets_among, count_of_patterns, items_in, ways, ways_of_items, ways_of_fronts}
+use Rattle.pattern_meaning.specs.Ways.{Way, plainly, where_true, with_parts, crossed, as_many, brackets, brackets_among, count_of_patterns, ways, ways_of_items, ways_of_fronts}
 use Rattle.patterns.specs.Lengths.{fixed_length, plus_length, least_length, or_open, is_open, MayTake}
 use Rattle.patterns.specs.Todos.{TodoTree, to_split, to_match, all_ways}
 use Rattle.patterns.proofs.Lists.{some_value, items_in_sequence, sequence-one_to_one}

@@ -1,5 +1,5 @@
 -- Lists, and the lists that values have.
-use Rattle.std.proofs.Common.{◌≡◌, ℕ, zero, suc, ◌+◌, ◌<◌, ◌≤◌, List, [], ◌∷◌, ◌++◌, map, length, take, drop, get_or, refl, ap, sym, ◌∙◌, arith, Option, Some, None, Bool, true, if◌then◌else◌, IsTrue, ◌↔◌, unwrap_or}
+use Rattle.std.proofs.Common.{◌≡◌, ℕ, zero, suc, List, [], ◌∷◌, map, take, refl, ap, sym, ◌∙◌, Some, None, Bool, true, if◌then◌else◌, IsTrue, ◌↔◌, unwrap_or}
 use Rattle.abstract_syntax.specs.Values.{ValueTree, character, record_of, sequence, set_of, tuple, map_of, value_trees, value_list, pair_trees, pair_list, value_list-value_trees, pair_list-pair_trees}
 use Rattle.pattern_meaning.specs.Ways.{items_in, elements_in, components_in, entries_in, same_type, fields_of}
 use Rattle.pattern_meaning.specs.RecordTypes.{RecordType}

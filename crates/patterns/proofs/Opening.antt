@@ -1,15 +1,15 @@
 -- What a pattern asks of its value has the ways of the pattern.
-use Rattle.std.proofs.Common.{◌≡◌, ℕ, suc, Bool, true, false, List, [], ◌∷◌, map, length, drop, refl, ap, sym, ◌∙◌, arith, IsTrue, Option, Some, None, nat_eq}
+use Rattle.std.proofs.Common.{◌≡◌, ℕ, suc, Bool, true, false, List, [], ◌∷◌, map, length, drop, refl, ap, sym, ◌∙◌, arith, Option, Some}
 use Rattle.std.proofs.lemmas.Bool.Decides.{nat_tests}
 use Rattle.abstract_syntax.specs.Expressions.{ExprTree, PatternTree, PatternTrees, MapletPatterns, any_value, bound, literal_pattern, equal_to, set_pattern, sequence_pattern, map_pattern, empty_map_pattern, tuple_pattern, record_pattern, concatenation_pattern, no_patterns, one_pattern, no_maplet_patterns, one_maplet_pattern}
 use Rattle.abstract_syntax.specs.Values.{ValueTree}
 use Rattle.abstract_syntax.specs.ValueCode.{value_code}
 use Rattle.abstract_syntax.specs.ValueSets.{Entry}
-use Rattle.abstract_syntax.specs.SameBy.{same_by, same_by-decides}
+use Rattle.abstract_syntax.specs.SameBy.{same_by-decides}
 use Rattle.vdm_kinds.specs.declared.name_at.TypeName.{TypeName}
 use Rattle.expr_tree.specs.declared.pattern.Pattern.{Pattern}
 use Rattle.expr_tree.specs.declared.pattern.MapletPattern.{MapletPattern}
-use Rattle.expr_tree.specs.View.{MapletPatternView, pattern_view, pattern_views, pattern_trees, maplet_pattern_view, maplet_pattern_trees}
+use Rattle.expr_tree.specs.View.{pattern_views, pattern_trees, maplet_pattern_view, maplet_pattern_trees}
 use Rattle.pattern_meaning.specs.RecordTypes.{RecordType}
 use Rattle.pattern_meaning.specs.Ways.{Way, plainly, where_true, with_parts, crossed, as_many, is_same, count_of_patterns, count_of_maplets, literal_value, is_next, brackets, brackets_among, brackets_in, items_in, elements_in, components_in, entries_in, fields_in, ways, ways_of_items, ways_of_set, ways_of_map, ways_of_fronts}
 use Rattle.patterns.specs.Todos.{TodoTree, to_match, to_split, subject_tree, Opens, Leads, todo_ways, todo_brackets, all_ways, choosing, choosing_pair, splitting}

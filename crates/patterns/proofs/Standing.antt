@@ -1,15 +1,13 @@
 -- The place that the map has tells what a name stands for.
-use Rattle.std.proofs.Common.{◌≡◌, ℕ, zero, suc, ◌+◌, ◌<◌, ◌≤◌, ◌⊎◌, inl, inr, ⊎_elim, Bool, true, false, nat_eq, cond, List, [], ◌∷◌, ◌++◌, map, length, take, get_or, refl, ap, sym, ◌∙◌, subst, arith, Option, Some, None, option_map, slice_get, unwrap_or, if◌then◌else◌, length-append}
+use Rattle.std.proofs.Common.{◌≡◌, ℕ, zero, suc, ◌+◌, ◌<◌, ◌≤◌, ◌⊎◌, inl, inr, ⊎_elim, Bool, true, false, nat_eq, cond, List, [], ◌∷◌, ◌++◌, map, length, take, get_or, refl, ap, sym, ◌∙◌, arith, Option, Some, None, option_map, if◌then◌else◌, length-append}
 use Rattle.std.proofs.lemmas.Bool.{cases_eq}
-use Rattle.std.specs.Option.{option_and_then}
 use Rattle.std.proofs.lemmas.Bool.Decides.{nat_tests}
 use Rattle.vdm_kinds.specs.declared.name.Name.{Name}
 use Rattle.abstract_syntax.specs.Values.{ValueTree}
 use Rattle.pattern_meaning.specs.Bindings.{Binding, value_in}
-use Rattle.patterns.specs.Places.{numbers_of, subject_of, subject_at}
+use Rattle.patterns.specs.Places.{numbers_of, subject_at}
 use Rattle.patterns.specs.Todos.{subject_tree}
 use Rattle.patterns.specs.declared.bound.Bound.{Bound}
-use Rattle.patterns.specs.declared.subject.Subject.{Subject}
 use Rattle.patterns.proofs.Lists.{some_value}
 
 abbrev pub bound_pairs : List Bound → Binding

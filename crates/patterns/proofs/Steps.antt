@@ -1,12 +1,12 @@
 -- One step of a search passes over no binding.
-use Rattle.std.proofs.Common.{◌≡◌, ℕ, zero, suc, ◌+◌, ◌<◌, ◌≤◌, Bool, true, false, List, [], ◌∷◌, ◌++◌, map, length, take, drop, get_or, refl, ap, sym, ◌∙◌, subst, arith, append_assoc, Option, Some, None, IsTrue, ◌↔◌, true≢false, length-append, append-nil, if◌then◌else◌}
+use Rattle.std.proofs.Common.{◌≡◌, ℕ, ◌+◌, ◌≤◌, Bool, true, false, List, [], ◌∷◌, ◌++◌, map, length, take, drop, refl, ap, sym, ◌∙◌, subst, arith, append_assoc, Option, Some, None, IsTrue, ◌↔◌, true≢false, length-append, append-nil, if◌then◌else◌}
 use Rattle.std.specs.List.{filter_map}
 use Rattle.std.proofs.lemmas.List.Elements.{filter_map-append}
 use Rattle.vdm_kinds.specs.declared.name.Name.{Name}
 use Rattle.vdm_kinds.specs.declared.name_at.TypeName.{TypeName}
 use Rattle.abstract_syntax.specs.Values.{ValueTree}
 use Rattle.pattern_meaning.specs.RecordTypes.{RecordType}
-use Rattle.pattern_meaning.specs.Ways.{Way, plainly, crossed, ways, is_next, where_true, is_same}
+use Rattle.pattern_meaning.specs.Ways.{Way, plainly, crossed, ways, is_next, where_true}
 use Rattle.pattern_meaning.specs.Bindings.{Binding, bindings, first_of, with_way, with_pair, put, value_in}
 use Rattle.abstract_syntax.specs.Expressions.{PatternTree, PatternTrees, no_patterns}
 use Rattle.patterns.specs.Todos.{TodoTree, to_split, all_ways, next_ways}

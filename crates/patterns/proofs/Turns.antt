@@ -1,5 +1,5 @@
 -- The ways of what comes next, by what is made of it.
-use Rattle.std.proofs.Common.{◌≡◌, ℕ, zero, suc, ◌+◌, ◌<◌, ◌≤◌, List, [], ◌∷◌, ◌++◌, map, flat_map, length, take, drop, get_or, refl, ap, sym, ◌∙◌, arith, Option}
+use Rattle.std.proofs.Common.{◌≡◌, ℕ, suc, ◌+◌, ◌<◌, ◌≤◌, List, [], ◌∷◌, ◌++◌, flat_map, length, take, drop, get_or, refl, ap, sym, ◌∙◌, arith, Option}
 use Rattle.vdm_kinds.specs.declared.name_at.TypeName.{TypeName}
 use Rattle.abstract_syntax.specs.Expressions.{PatternTree, PatternTrees, MapletPatterns, no_patterns, one_pattern, no_maplet_patterns, one_maplet_pattern}
 use Rattle.abstract_syntax.specs.Values.{ValueTree, sequence, value_trees}
@@ -7,7 +7,7 @@ use Rattle.abstract_syntax.specs.ValueSets.{Entry}
 use Rattle.pattern_meaning.specs.Choices.{choices, splits}
 use Rattle.pattern_meaning.specs.RecordTypes.{RecordType}
 use Rattle.pattern_meaning.specs.Ways.{Way, crossed, brackets, brackets_among, brackets_in, ways, ways_of_items, ways_of_set, ways_of_map, ways_of_fronts}
-use Rattle.patterns.specs.Todos.{TodoTree, to_match, to_match_items, to_choose, to_choose_pair, to_split, all_ways, choosing, choosing_pair, splitting}
+use Rattle.patterns.specs.Todos.{TodoTree, to_match, to_match_items, to_choose, to_choose_pair, to_split, all_ways}
 use Rattle.patterns.proofs.Picked.{drop_more, choices_at, choices_past, splits_at, splits_past}
 use Rattle.patterns.proofs.Crossed.{crossed-plainly, crossed-append, crossed-crossed}
 use Rattle.patterns.proofs.Opening.{choose_from_the_first, choose_pair_from_the_first, from_the_first}

@@ -1,5 +1,5 @@
 -- The pure tree of each kind of pattern.
-use Rattle.std.proofs.Common.{◌≡◌, ℕ, ◌-◌, ◌<◌, ◌≤◌, List, [], ◌∷◌, length, take, drop, get_or, rules, refl, ap, ◌∙◌, sym, map}
+use Rattle.std.proofs.Common.{◌≡◌, ◌-◌, ◌<◌, ◌≤◌, List, length, take, drop, get_or, rules, refl, ap, ◌∙◌, sym, map}
 use Rattle.abstract_syntax.specs.Expressions.{PatternTree, any_value, bound, literal_pattern, equal_to, set_pattern, sequence_pattern, map_pattern, empty_map_pattern, tuple_pattern, record_pattern, concatenation_pattern, no_patterns, one_pattern, no_maplet_patterns, one_maplet_pattern}
 use Rattle.expr_tree.specs.declared.pattern.Pattern as rust
 use Rattle.expr_tree.specs.declared.pattern.Pattern.{Pattern, the_lemmas}

@@ -4,13 +4,11 @@ use Rattle.std.proofs.Common.{Result, Err}
 use Rattle.vdm_kinds.specs.declared.halt.Halt.{Halt}
 use Rattle.vdm_kinds.specs.declared.halt.Halt.TheVariants.{Of}
 use Rattle.vdm_kinds.specs.declared.run_fault.RunFault.{RunFault}
-use Rattle.vdm_kinds.specs.declared.name.Name.{Name}
 use Rattle.vdm_kinds.specs.declared.name_at.TypeName.{TypeName}
 use Rattle.abstract_syntax.specs.Expressions.{PatternTree}
 use Rattle.abstract_syntax.specs.Values.{ValueTree}
-use Rattle.abstract_syntax.specs.ValueSets.{IsTooLarge}
 use Rattle.pattern_meaning.specs.RecordTypes.{RecordType}
-use Rattle.pattern_meaning.specs.Bindings.{Binding, bindings, first_of, first_binding, IsPastLimits}
+use Rattle.pattern_meaning.specs.Bindings.{Binding, first_of, first_binding, IsPastLimits}
 use Rattle.patterns.specs.Search.{binding_of, Begins, outcome, found}
 use Rattle.patterns.specs.declared.search.Search.{Search}
 use Rattle.patterns.proofs.Picked.{length-map}

@@ -1,5 +1,5 @@
 -- Where names stand in a list.
-use Rattle.std.specs.Prelude.{◌≡◌, ℕ, ◌<◌, nat_eq, if◌then◌else◌, List, [], ◌∷◌, map, length, get_or, Option, Some, None, slice_get}
+use Rattle.std.specs.Prelude.{◌≡◌, ℕ, ◌<◌, nat_eq, if◌then◌else◌, List, map, length, get_or, Option, Some, None, slice_get}
 use Rattle.std.specs.Coded.{Coded-set, coded_option, coded_ℕ, Π_prop}
 use Rattle.std.specs.HashMap.{HashMap, get}
 use Rattle.std.specs.Option.{option_and_then}

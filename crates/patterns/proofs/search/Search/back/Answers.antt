@@ -1,5 +1,4 @@
-use Rattle.std.proofs.Common.{◌≡◌, ◌≤◌, ◌<◌, ◌+◌, ◌∷◌, ap, sym, ◌∙◌, refl, length, option_map, arith}
-use Rattle.patterns.specs.Todos.{all_ways, next_ways, at, subject_tree, todo_of}
+use Rattle.std.proofs.Common.{sym, ◌∙◌, refl}
 use Rattle.patterns.proofs.Steps.{back_to, back_nowhere}
 use Rattle.patterns.proofs.search.Search.back.Goals as goal
 

@@ -1,5 +1,4 @@
-use Rattle.std.proofs.Common.{◌≡◌, ◌≤◌, ◌<◌, ◌+◌, ◌∷◌, ap, sym, ◌∙◌, refl, length, option_map, arith}
-use Rattle.patterns.specs.Todos.{all_ways, next_ways, at, subject_tree, todo_of}
+use Rattle.std.proofs.Common.{refl}
 use Rattle.patterns.proofs.Steps.{ends_found, ends_later}
 use Rattle.patterns.proofs.search.Search.turn.Goals as goal
 
