@@ -1,0 +1,3 @@
+pub mod Firsts
+pub mod Members
+pub mod Tried

@@ -1,0 +1,11 @@
+pub mod Crossed
+pub mod Following
+pub mod Fronts
+pub mod Lists
+pub mod Opening
+pub mod Picked
+pub mod Standing
+pub mod Steps
+pub mod Turns
+pub mod Views
+pub mod Whole

@@ -1,0 +1,87 @@
+// Which record type a name stands for.
+
+ghost use Rattle.std.specs.Prelude.{◌≡◌, IfOk, Some, option_map};
+ghost use Rattle.pattern_meaning.specs.RecordTypes.{name_in as named_in, stands_for};
+ghost use Rattle.pattern_meaning.specs.Ways.{fields_in, same_type};
+ghost use Rattle.patterns.specs.Todos.{subject_tree, record_type_of_names};
+ghost use Rattle.type_tree.specs.TypeView.{type_view};
+
+use crate::subject::Subject;
+use expr_tree::{TypeBody, TypeExpr, TypeNames};
+use vdm_kinds::{Name, OutOfMemory, TypeName};
+use vdm_values::{Node, Value};
+
+/// The class and the name of the record type that a name stands for in a class.
+pub(crate) fn record_type<N: TypeNames>(
+    scope: Name,
+    type_name: TypeName,
+    names: &N,
+) -> Result<Option<(Name, Name)>, OutOfMemory>
+    ensures { IfOk result (λ found. option_map record_type_of_names found ≡ stands_for (N.found names.now) (N.rank names.now) scope type_name) }
+{
+    let mut found = names.type_def(scope, type_name.class, type_name.name);
+    for step in 0..u64::MAX {
+        let Some(definition) = found else {
+            return Ok(None);
+        };
+        let TypeBody::Same(declared) = &definition.body else {
+            return Ok(Some((definition.class, definition.name)));
+        };
+        let Some(next) = name_in(declared)? else {
+            return Ok(None);
+        };
+        found = names.type_def(definition.class, next.class, next.name);
+    }
+    Err(OutOfMemory)
+}
+
+// The name that a type is, brackets aside.
+fn name_in(declared: &TypeExpr) -> Result<Option<TypeName>, OutOfMemory>
+    ensures { IfOk result (λ name. name ≡ named_in (type_view declared.now)) }
+{
+    let mut inner = declared;
+    for step in 0..u64::MAX {
+        match inner {
+            TypeExpr::Bracketed(next, _) => inner = next,
+            TypeExpr::Named(name, _) => return Ok(Some(*name)),
+            _ => return Ok(None),
+        }
+    }
+    Err(OutOfMemory)
+}
+
+/// The fields of a record of this type.
+pub(crate) fn fields<'t>(found: Option<(Name, Name)>, subject: Subject<'t>) -> Option<&'t [Value]>
+    ensures { option_map (λ r. r.now) result ≡ fields_in (option_map record_type_of_names found) (subject_tree subject.entry) }
+{
+    let (wanted_class, wanted_name) = found?;
+    match subject {
+        Subject::Whole(value) => fields_of(wanted_class, wanted_name, value),
+        Subject::Part(_) => None,
+    }
+}
+
+fn fields_of(wanted_class: Name, wanted_name: Name, value: &Value) -> Option<&[Value]>
+    ensures { option_map (λ r. r.now) result ≡ fields_in (Some (record_type_of_names (wanted_class, wanted_name))) value.now }
+{
+    match value.node() {
+        Node::Rec {
+            class,
+            name,
+            fields,
+        } => {
+            if is_of(*class, *name, wanted_class, wanted_name) {
+                Some(fields.as_slice())
+            } else {
+                None
+            }
+        }
+        _ => None,
+    }
+}
+
+fn is_of(class: Name, name: Name, wanted_class: Name, wanted_name: Name) -> bool
+    ensures { result ≡ same_type (record_type_of_names (wanted_class, wanted_name)) class name }
+{
+    wanted_class.0 == class.0 && wanted_name.0 == name.0
+}
