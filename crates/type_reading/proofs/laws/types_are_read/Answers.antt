@@ -1,8 +1,8 @@
 use Rattle.std.proofs.Common.{◌≡◌, Some, ◌∙◌, sym}
 use Rattle.abstract_syntax.specs.Types.{TypeTree}
-use Rattle.type_trees.proofs.Read.{type-read}
-use Rattle.type_trees.proofs.Spelled.{read-type}
-use Rattle.type_trees.proofs.laws.types_are_read.Goals as goal
+use Rattle.type_reading.proofs.Read.{type-read}
+use Rattle.type_reading.proofs.Spelled.{read-type}
+use Rattle.type_reading.proofs.laws.types_are_read.Goals as goal
 
 same-tree : (a b : TypeTree) → Some a ≡ Some b → a ≡ b
 same-tree a b e = cc

@@ -8,8 +8,8 @@ use Rattle.grammar_words.specs.declared.word.Word.{Word}
 use Rattle.grammar_words.specs.declared.word.Word.TheVariants.{Backquote, Bar, Basic, CloseRound, CloseSquare, InMap, Map, Of, OpenRound, OpenSquare, Operator, Seq, Seq1, Set, To}
 use Rattle.grammar_words.specs.Tokens.{Token, identifier, quote, plain}
 use Rattle.grammar_words.specs.Written.{Written, IsToken, AreTokens, at, word, at_word}
-use Rattle.type_trees.specs.TypeSpelling.{Width, union, product, single, IsType, AreTypes, AreTwoTypes, IsTypeOf, type_spelling, types_spelling, further_types}
-use Rattle.type_trees.specs.Reading.{Collection, a_set, a_sequence, a_filled_sequence, collection_type, Mapping, any_map, injective_map, mapping_type, Bracket, round, square, name_alone, name_of_class, types_behind, Frame, element, key_of, value_of, enclosed, factors, alternatives, Mode, wants, has, wants_of, named, qualified, refused, State, state, refusal, Closed, closed, settled, has_settled, product_closed, union_closed, all_closed, wanted, next_factor, next_alternative, close_round, close_square, value_next, behind, of_wanted, behind_name, behind_backquote, step, whole, finished, outcome, type_of}
+use Rattle.type_reading.specs.TypeSpelling.{Width, union, product, single, IsType, AreTypes, AreTwoTypes, IsTypeOf, type_spelling, types_spelling, further_types}
+use Rattle.type_reading.specs.Reading.{Collection, a_set, a_sequence, a_filled_sequence, collection_type, Mapping, any_map, injective_map, mapping_type, Bracket, round, square, name_alone, name_of_class, types_behind, Frame, element, key_of, value_of, enclosed, factors, alternatives, Mode, wants, has, wants_of, named, qualified, refused, State, state, refusal, Closed, closed, settled, has_settled, product_closed, union_closed, all_closed, wanted, next_factor, next_alternative, close_round, close_square, value_next, behind, of_wanted, behind_name, behind_backquote, step, whole, finished, outcome, type_of}
 
 -- ---- what open frames were written with
 

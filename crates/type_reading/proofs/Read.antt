@@ -9,9 +9,9 @@ use Rattle.grammar_words.specs.declared.word.Word.{Word}
 use Rattle.grammar_words.specs.declared.word.Word.TheVariants.{Backquote, Bar, Basic, CloseRound, CloseSquare, InMap, Map, Of, OpenRound, OpenSquare, Operator, Seq, Seq1, Set, To}
 use Rattle.grammar_words.specs.Tokens.{Token, identifier, quote, plain}
 use Rattle.grammar_words.specs.Written.{at, word, at_word}
-use Rattle.type_trees.specs.TypeSpelling.{Width, union, product, single, IsType, AreTypes, AreTwoTypes, begin_at, IsTypeOf, type_spelling, types_spelling, further_types}
-use Rattle.type_trees.specs.Reading.{Collection, a_set, a_sequence, a_filled_sequence, collection_type, Mapping, any_map, injective_map, mapping_type, Bracket, round, square, enclosed_type, name_alone, name_of_class, types_behind, first_place, Frame, element, key_of, value_of, enclosed, factors, alternatives, State, state, wants, has, wants_of, named, qualified, Closed, closed, settled, has_settled, product_closed, union_closed, all_closed, wanted, next_factor, next_alternative, behind, behind_name, value_next, close_round, close_square, whole, outcome, type_of}
-use Rattle.type_trees.proofs.Fronts.{Front, front-all, split, take_at, take_word, is_backquote, NoBackquote, no_backquote}
+use Rattle.type_reading.specs.TypeSpelling.{Width, union, product, single, IsType, AreTypes, AreTwoTypes, begin_at, IsTypeOf, type_spelling, types_spelling, further_types}
+use Rattle.type_reading.specs.Reading.{Collection, a_set, a_sequence, a_filled_sequence, collection_type, Mapping, any_map, injective_map, mapping_type, Bracket, round, square, enclosed_type, name_alone, name_of_class, types_behind, first_place, Frame, element, key_of, value_of, enclosed, factors, alternatives, State, state, wants, has, wants_of, named, qualified, Closed, closed, settled, has_settled, product_closed, union_closed, all_closed, wanted, next_factor, next_alternative, behind, behind_name, value_next, close_round, close_square, whole, outcome, type_of}
+use Rattle.type_reading.proofs.Fronts.{Front, front-all, split, take_at, take_word, is_backquote, NoBackquote, no_backquote}
 
 -- ---- where a product, and a union, may begin
 

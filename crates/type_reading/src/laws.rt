@@ -3,8 +3,8 @@
 ghost use Rattle.std.specs.Prelude.{◌≡◌, ◌↔◌, List, Some};
 ghost use Rattle.abstract_syntax.specs.Types.{TypeTree};
 ghost use Rattle.grammar_words.specs.Tokens.{Token};
-ghost use Rattle.type_trees.specs.Reading.{type_of};
-ghost use Rattle.type_trees.specs.TypeSpelling.{IsTypeOf};
+ghost use Rattle.type_reading.specs.Reading.{type_of};
+ghost use Rattle.type_reading.specs.TypeSpelling.{IsTypeOf};
 
 /// Tokens are at most one type of the grammar, and reading them from left to right finds it.
 pub fn types_are_read()
