@@ -4,6 +4,7 @@ use grammar_words::Word;
 use vdm_kinds::{Name, Place};
 
 /// What is written, at the place of its first character.
+#[derive(Drop)]
 pub enum Token {
     Identifier(Name, Place),
     /// The name between the signs of `<Red>`.
@@ -19,20 +20,4 @@ pub enum Token {
     IsNamed(Name, Place),
     /// Every other word, without a name and without a value.
     Plain(Word, Place),
-}
-
-// A derived drop would be proved again in each crate that drops a token.
-impl Drop for Token {
-    fn drop(self) {
-        match self {
-            Token::Identifier(_name, _place) => {}
-            Token::Quote(_name, _place) => {}
-            Token::Whole(_number, _place) => {}
-            Token::Character(_character, _place) => {}
-            Token::Text(_characters, _place) => {}
-            Token::MakeNamed(_name, _place) => {}
-            Token::IsNamed(_name, _place) => {}
-            Token::Plain(_word, _place) => {}
-        }
-    }
 }
