@@ -37,7 +37,7 @@ in_curly word.MapsTo = own (CloseCurly ∷ [])
 in_curly w = then_wanted (expression w) (BehindFirstInCurly ∷ [])
 
 -- `C(Bind) [ "&" Expr ] "}"`
-abbrev comprehension : List Wanted
+abbrev pub comprehension : List Wanted
 comprehension = Pattern ∷ BehindBound ∷ MoreBinds ∷ Condition ∷ CloseCurly ∷ []
 
 abbrev pub behind_first_in_curly : Word → Option Turn

@@ -43,7 +43,7 @@ use Rattle.grammar_fronts.specs.declared.wanted.Wanted.TheVariants.{
 use Rattle.grammar_fronts.specs.Turns.{Turn, begins, joins, own, operand, far, then_wanted}
 
 -- an operator before its operand
-abbrev before : Sign → Option Turn
+abbrev pub before : Sign → Option Turn
 before sign = Some (begins (right_pull sign) (Expression ∷ []) [])
 
 abbrev pub before_operand : Sign → Option Turn
@@ -52,6 +52,37 @@ before_operand Minus = before Negative
 before_operand Positive = None
 before_operand Negative = None
 before_operand sign = if is_prefix sign then before sign else None
+
+-- what reaches as far to the right as it can; `cases` has an end of its own
+abbrev pub reaching : Word → Option Turn
+reaching word.Let = far (Pattern ∷ BehindLet ∷ [])
+reaching word.Def = far (Pattern ∷ Equals ∷ Expression ∷ InOfDef ∷ Expression ∷ [])
+reaching word.If = far (Expression ∷ Then ∷ Expression ∷ Otherwise ∷ [])
+reaching word.Cases = operand (Expression ∷ Colon ∷ Pattern ∷ BehindCase ∷ MoreCases ∷ [])
+reaching word.Forall = far (Pattern ∷ BehindBound ∷ MoreBinds ∷ Ampersand ∷ Expression ∷ [])
+reaching word.Exists = far (Pattern ∷ BehindBound ∷ MoreBinds ∷ Ampersand ∷ Expression ∷ [])
+reaching word.ExistsOne = far (Pattern ∷ BehindBound ∷ Ampersand ∷ Expression ∷ [])
+reaching word.Iota = far (Pattern ∷ BehindOnlyBound ∷ Ampersand ∷ Expression ∷ [])
+reaching _ = None
+
+abbrev pub made : Word → Option Turn
+-- tuples, tokens, records, tests of types
+made word.MakeTuple = operand (OpenRound ∷ Expression ∷ Comma ∷ Expression ∷ MoreExpressions ∷ CloseRound ∷ [])
+made word.MakeToken = operand (OpenRound ∷ Expression ∷ CloseRound ∷ [])
+made word.MakeNamed = operand (BehindClass ∷ OpenRound ∷ Parts ∷ [])
+made word.IsType = operand (OpenRound ∷ Expression ∷ Comma ∷ WholeType ∷ CloseRound ∷ [])
+made word.IsNamed = operand (BehindClass ∷ OpenRound ∷ Expression ∷ CloseRound ∷ [])
+made (word.IsBasic basic) = operand (OpenRound ∷ Expression ∷ CloseRound ∷ [])
+made word.Modify =
+    operand (OpenRound ∷ Expression ∷ Comma ∷ Identifier ∷ MapsTo ∷ Expression ∷ MoreChanges ∷ CloseRound ∷ [])
+-- objects, and counters of their operations
+made word.New = operand (Identifier ∷ OpenRound ∷ Parts ∷ [])
+made word.IsOfClass = operand (OpenRound ∷ Identifier ∷ Comma ∷ Expression ∷ CloseRound ∷ [])
+made word.IsOfBaseClass = operand (OpenRound ∷ Identifier ∷ Comma ∷ Expression ∷ CloseRound ∷ [])
+made word.SameClass = operand (OpenRound ∷ Expression ∷ Comma ∷ Expression ∷ CloseRound ∷ [])
+made word.SameBaseClass = operand (OpenRound ∷ Expression ∷ Comma ∷ Expression ∷ CloseRound ∷ [])
+made (word.Counter counter) = operand (OpenRound ∷ Identifier ∷ MoreNames ∷ CloseRound ∷ [])
+made w = reaching w
 
 abbrev pub expression : Word → Option Turn
 expression (word.Operator sign) = before_operand sign
@@ -72,38 +103,13 @@ expression word.Result = operand []
 expression word.OpenRound = operand (Expression ∷ CloseRound ∷ [])
 expression word.OpenCurly = operand (InCurly ∷ [])
 expression word.OpenSquare = operand (InSquare ∷ [])
--- tuples, tokens, records, tests of types
-expression word.MakeTuple = operand (OpenRound ∷ Expression ∷ Comma ∷ Expression ∷ MoreExpressions ∷ CloseRound ∷ [])
-expression word.MakeToken = operand (OpenRound ∷ Expression ∷ CloseRound ∷ [])
-expression word.MakeNamed = operand (BehindClass ∷ OpenRound ∷ Parts ∷ [])
-expression word.IsType = operand (OpenRound ∷ Expression ∷ Comma ∷ WholeType ∷ CloseRound ∷ [])
-expression word.IsNamed = operand (BehindClass ∷ OpenRound ∷ Expression ∷ CloseRound ∷ [])
-expression (word.IsBasic basic) = operand (OpenRound ∷ Expression ∷ CloseRound ∷ [])
-expression word.Modify =
-    operand (OpenRound ∷ Expression ∷ Comma ∷ Identifier ∷ MapsTo ∷ Expression ∷ MoreChanges ∷ CloseRound ∷ [])
--- objects, and counters of their operations
-expression word.New = operand (Identifier ∷ OpenRound ∷ Parts ∷ [])
-expression word.IsOfClass = operand (OpenRound ∷ Identifier ∷ Comma ∷ Expression ∷ CloseRound ∷ [])
-expression word.IsOfBaseClass = operand (OpenRound ∷ Identifier ∷ Comma ∷ Expression ∷ CloseRound ∷ [])
-expression word.SameClass = operand (OpenRound ∷ Expression ∷ Comma ∷ Expression ∷ CloseRound ∷ [])
-expression word.SameBaseClass = operand (OpenRound ∷ Expression ∷ Comma ∷ Expression ∷ CloseRound ∷ [])
-expression (word.Counter counter) = operand (OpenRound ∷ Identifier ∷ MoreNames ∷ CloseRound ∷ [])
--- what reaches as far to the right as it can; `cases` has an end of its own
-expression word.Let = far (Pattern ∷ BehindLet ∷ [])
-expression word.Def = far (Pattern ∷ Equals ∷ Expression ∷ InOfDef ∷ Expression ∷ [])
-expression word.If = far (Expression ∷ Then ∷ Expression ∷ Otherwise ∷ [])
-expression word.Cases = operand (Expression ∷ Colon ∷ Pattern ∷ BehindCase ∷ MoreCases ∷ [])
-expression word.Forall = far (Pattern ∷ BehindBound ∷ MoreBinds ∷ Ampersand ∷ Expression ∷ [])
-expression word.Exists = far (Pattern ∷ BehindBound ∷ MoreBinds ∷ Ampersand ∷ Expression ∷ [])
-expression word.ExistsOne = far (Pattern ∷ BehindBound ∷ Ampersand ∷ Expression ∷ [])
-expression word.Iota = far (Pattern ∷ BehindOnlyBound ∷ Ampersand ∷ Expression ∷ [])
-expression _ = None
+expression w = made w
 
 -- an infix operator wants an operand, with what binds it tighter
 abbrev pub between_operands : Sign → Option Turn
 between_operands sign = if is_infix sign then Some (joins (left_pull sign) (right_pull sign) (Expression ∷ []) []) else None
 
-abbrev postfix : List Wanted → Option Turn
+abbrev pub postfix : List Wanted → Option Turn
 postfix parts = Some (joins postfix_pull 0 parts (BehindOperand ∷ []))
 
 abbrev pub behind_operand : Word → Option Turn

@@ -24,7 +24,7 @@ use Rattle.grammar_fronts.specs.declared.wanted.Wanted.TheVariants.{
 }
 use Rattle.grammar_fronts.specs.Turns.{Turn, begins, adds, own, then_wanted}
 
-abbrev single : List Wanted → Option Turn
+abbrev pub single : List Wanted → Option Turn
 single parts = Some (begins 0 parts (BehindPattern ∷ []))
 
 abbrev pub pattern : Word → Option Turn

@@ -1,80 +1,18 @@
 -- What may come where something is wanted: one table of what each word does, one of what may be left out, and one of what is a form
 -- that the profile leaves out.
-use Rattle.std.specs.Prelude.{Bool, true, false, Option, None}
+use Rattle.std.specs.Prelude.{Bool, true, false, Option}
 use Rattle.vdm_kinds.specs.declared.sign.Sign.TheVariants.{Union, MapUnion}
 use Rattle.grammar_words.specs.declared.word.Word.{Word}
 use Rattle.grammar_words.specs.declared.word.Word.TheVariants as word
 use Rattle.grammar_fronts.specs.declared.wanted.Wanted.{Wanted}
-use Rattle.grammar_fronts.specs.declared.wanted.Wanted.TheVariants.{
-  WholeType,
-  SingleType,
-  BehindType,
-  Pattern,
-  BehindPattern,
-  InCurlyPattern,
-  BehindFirstInPattern,
-  InSquarePattern,
-  PatternParts,
-  MorePatterns,
-  MorePatternPairs,
-  Expression,
-  BehindOperand,
-  BehindName,
-  BehindClass,
-  Parts,
-  MoreExpressions,
-  InOfDef,
-  InCurly,
-  BehindFirstInCurly,
-  SecondInCurly,
-  BehindFirstPair,
-  MorePairs,
-  InSquare,
-  BehindFirstInSquare,
-  Arguments,
-  BehindFirstArgument,
-  SecondArgument,
-  MoreChanges,
-  MoreNames,
-  BehindBound,
-  BehindOnlyBound,
-  MoreBinds,
-  Condition,
-  BehindLet,
-  LocalType,
-  MoreLocals,
-  SuchThat,
-  Otherwise,
-  BehindCase,
-  MoreCases,
-  NextCase,
-  SetOfBind,
-  Identifier,
-  Whole,
-  OpenRound,
-  CloseRound,
-  CloseSquare,
-  CloseCurly,
-  Comma,
-  Colon,
-  MapsTo,
-  Arrow,
-  Ampersand,
-  Equals,
-  Of,
-  To,
-  Then,
-  In,
-  St,
-  End,
-}
+use Rattle.grammar_fronts.specs.declared.wanted.Wanted.TheVariants.{WholeType, SingleType, BehindType, Pattern, BehindPattern, InCurlyPattern, BehindFirstInPattern, InSquarePattern, PatternParts, MorePatterns, MorePatternPairs, Expression, BehindOperand, BehindName, BehindClass, Parts, MoreExpressions, InOfDef, InCurly, BehindFirstInCurly, SecondInCurly, BehindFirstPair, MorePairs, InSquare, BehindFirstInSquare, Arguments, BehindFirstArgument, SecondArgument, MoreChanges, MoreNames, BehindBound, BehindOnlyBound, MoreBinds, Condition, BehindLet, LocalType, MoreLocals, SuchThat, Otherwise, BehindCase, MoreCases, NextCase, SetOfBind}
 use Rattle.grammar_fronts.specs.Turns.{Turn}
 use Rattle.grammar_fronts.specs.Types.{whole_type, single_type, behind_type}
 use Rattle.grammar_fronts.specs.Patterns.{pattern, behind_pattern, in_curly_pattern, behind_first_in_pattern, in_square_pattern, pattern_parts, more_patterns, more_pattern_pairs}
 use Rattle.grammar_fronts.specs.Operands.{expression, behind_operand, behind_name, behind_class, parts, more_expressions}
 use Rattle.grammar_fronts.specs.Brackets.{in_curly, behind_first_in_curly, second_in_curly, behind_first_pair, more_pairs, in_square, behind_first_in_square, arguments, behind_first_argument, second_argument, more_changes, more_names}
 use Rattle.grammar_fronts.specs.Binds.{behind_bound, behind_only_bound, more_binds, condition, behind_let, local_type, more_locals, such_that, otherwise, behind_case, more_cases, next_case}
-use Rattle.grammar_fronts.specs.Words.{just_identifier, just_whole, just_open_round, just_close_round, just_close_square, just_close_curly, just_comma, just_colon, just_maps_to, just_arrow, just_ampersand, just_equals, just_of, just_to, just_then, just_in, just_st, just_end}
+use Rattle.grammar_fronts.specs.Words.{alone}
 
 -- what a word does, where it may stand
 abbrev pub turn : Wanted → Word → Option Turn
@@ -95,7 +33,6 @@ turn BehindName w = behind_name w
 turn BehindClass w = behind_class w
 turn Parts w = parts w
 turn MoreExpressions w = more_expressions w
-turn InOfDef w = just_in w
 turn InCurly w = in_curly w
 turn BehindFirstInCurly w = behind_first_in_curly w
 turn SecondInCurly w = second_in_curly w
@@ -120,25 +57,7 @@ turn Otherwise w = otherwise w
 turn BehindCase w = behind_case w
 turn MoreCases w = more_cases w
 turn NextCase w = next_case w
-turn SetOfBind w = None
-turn Identifier w = just_identifier w
-turn Whole w = just_whole w
-turn OpenRound w = just_open_round w
-turn CloseRound w = just_close_round w
-turn CloseSquare w = just_close_square w
-turn CloseCurly w = just_close_curly w
-turn Comma w = just_comma w
-turn Colon w = just_colon w
-turn MapsTo w = just_maps_to w
-turn Arrow w = just_arrow w
-turn Ampersand w = just_ampersand w
-turn Equals w = just_equals w
-turn Of w = just_of w
-turn To w = just_to w
-turn Then w = just_then w
-turn In w = just_in w
-turn St w = just_st w
-turn End w = just_end w
+turn wanted w = alone wanted w
 
 -- what need not come: parts that are optional or repeated, and what may follow a whole operand, pattern or type
 abbrev pub is_optional : Wanted → Bool

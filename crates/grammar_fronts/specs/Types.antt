@@ -8,7 +8,7 @@ use Rattle.grammar_fronts.specs.declared.wanted.Wanted.TheVariants.{WholeType, S
 use Rattle.grammar_fronts.specs.Turns.{Turn, begins, adds, then_wanted}
 
 -- the parts of a single type
-abbrev single : List Wanted → Option Turn
+abbrev pub single : List Wanted → Option Turn
 single parts = Some (begins 0 parts [])
 
 abbrev pub single_type : Word → Option Turn
