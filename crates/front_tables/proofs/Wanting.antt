@@ -1,7 +1,6 @@
 -- What begins, and nothing besides.
-use Rattle.std.proofs.Common.{◌≡◌, List, [], ◌++◌, Option, Some, None, ap, refl}
+use Rattle.std.proofs.Common.{◌≡◌, [], Option, Some, None, ap, refl}
 use Rattle.std.proofs.lemmas.List.{append-nil}
-use Rattle.grammar_fronts.specs.declared.wanted.Wanted.{Wanted}
 use Rattle.grammar_fronts.specs.Turns.{Turn, goes_on, begins, joins, adds, then_wanted}
 
 pub nothing_more : (found : Option Turn) → then_wanted found [] ≡ found

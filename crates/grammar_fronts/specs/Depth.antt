@@ -13,19 +13,19 @@ pub record Nest : Type 0 where
   pub nodes : List OpenNode
   pub read : ℕ
 
-abbrev nest : List OpenNode → ℕ → Nest
+abbrev pub nest : List OpenNode → ℕ → Nest
 nest nodes read = record { nodes = nodes; read = read }
 
 -- a node has a part of this depth
-abbrev with_part : ℕ → OpenNode → OpenNode
+abbrev pub with_part : ℕ → OpenNode → OpenNode
 with_part depth node = record node { deepest = max node.deepest depth }
 
 -- a node is over where nothing of it is wanted any more, and where an operator that pulls less takes it as its left operand
-abbrev is_over : ℕ → ℕ → OpenNode → Bool
+abbrev pub is_over : ℕ → ℕ → OpenNode → Bool
 is_over wanted pull node = nat_le wanted node.below || nat_lt pull node.pull
 
 -- the innermost nodes end while they are over, each as a part of the next
-abbrev end_over : ℕ → ℕ → ℕ → List OpenNode → Nest
+abbrev pub end_over : ℕ → ℕ → ℕ → List OpenNode → Nest
 end_over wanted pull depth [] = nest [] depth
 end_over wanted pull depth (node ∷ nodes) =
     let now = with_part depth node in
@@ -41,11 +41,11 @@ pull_of (begins pull parts rest) = closed
 pull_of (joins left right parts rest) = left
 pull_of (adds pull parts) = pull
 
-abbrev new_node : ℕ → ℕ → List Wanted → OpenNode
+abbrev pub new_node : ℕ → ℕ → List Wanted → OpenNode
 new_node pull deepest behind = record { pull = pull; deepest = deepest; below = length behind }
 
 -- one more part of the node that pulls as much, or the first of a new one
-abbrev added : ℕ → OpenNode → List OpenNode → List OpenNode
+abbrev pub added : ℕ → OpenNode → List OpenNode → List OpenNode
 added pull new [] = new ∷ []
 added pull new (node ∷ nodes) = if node.pull == pull then node ∷ nodes else new ∷ node ∷ nodes
 
@@ -62,19 +62,19 @@ nesting_limit = 200
 
 -- Where the words are too deep: at the first word with which a node begins that is one too many, or with which a node ended that
 -- is too deep. What ended with a word shows at the next one.
-abbrev too_many : Place → (List Wanted → List OpenNode → Option Place) → List Wanted → List OpenNode → Option Place
+abbrev pub too_many : Place → (List Wanted → List OpenNode → Option Place) → List Wanted → List OpenNode → Option Place
 too_many place next wanted nodes = if nat_lt nesting_limit (length nodes) then Some place else next wanted nodes
 
-abbrev too_deep : Option Place → Nest → Option Place → Option Place
-too_deep last nest others = if nat_lt nesting_limit nest.read then last else others
+abbrev pub too_deep : Place → Nest → Option Place → Option Place
+too_deep last nest others = if nat_lt nesting_limit nest.read then Some last else others
 
-abbrev deep_at : Option Place → Place → (List Wanted → List OpenNode → Option Place) → List OpenNode → Met → Option Place
+abbrev pub deep_at : Place → Place → (List Wanted → List OpenNode → Option Place) → List OpenNode → Met → Option Place
 deep_at last place next nodes (refuses wanted) = too_deep last (ended (length wanted) closed nodes) None
 deep_at last place next nodes (takes done behind) =
     let nest = ended (length behind + 1) (pull_of done) nodes in
     too_deep last nest (too_many place next (wanted_by done ++ behind) (with_turn done behind nest))
 
 -- the first place where words are too deep: behind the place of the word before, from what is wanted and the nodes that are open
-abbrev pub first_deep : Option Place → List PlacedWord → List Wanted → List OpenNode → Option Place
+abbrev pub first_deep : Place → List PlacedWord → List Wanted → List OpenNode → Option Place
 first_deep last [] wanted nodes = too_deep last (ended (length (needed wanted)) closed nodes) None
-first_deep last (word ∷ words) wanted nodes = deep_at last word.place (first_deep (Some word.place) words) nodes (meets word.word wanted)
+first_deep last (word ∷ words) wanted nodes = deep_at last word.place (first_deep word.place words) nodes (meets word.word wanted)

@@ -1,6 +1,5 @@
 -- The longest front of words that is viable.
-use Rattle.std.specs.Prelude.{◌≡◌, ◌≤◌, Bool, false, ◌&&◌, ◌||◌, List, [], ◌∷◌, ◌++◌, length, map, Option, Some, None}
-use Rattle.std.specs.List.{list_all}
+use Rattle.std.specs.Prelude.{◌≡◌, ℕ, ◌+◌, ◌==◌, ◌≤◌, Bool, false, ◌&&◌, ◌||◌, List, [], ◌∷◌, ◌++◌, length, map, Option, Some, None}
 use Rattle.vdm_kinds.specs.declared.place.Place.{Place}
 use Rattle.grammar_words.specs.declared.word.PlacedWord.{PlacedWord}
 use Rattle.grammar_words.specs.declared.word.Word.{Word}
@@ -10,7 +9,8 @@ use Rattle.grammar_fronts.specs.declared.front.Front.TheVariants.{TooDeep, Reach
 use Rattle.grammar_fronts.specs.declared.kind.Kind.{Kind}
 use Rattle.grammar_fronts.specs.declared.wanted.Wanted.{Wanted}
 use Rattle.grammar_fronts.specs.Table.{is_optional, is_left_out_at}
-use Rattle.grammar_fronts.specs.Viable.{after, start, IsViable}
+use Rattle.grammar_fronts.specs.declared.open_node.OpenNode.{OpenNode}
+use Rattle.grammar_fronts.specs.Viable.{after, start, needed, IsViable}
 use Rattle.grammar_fronts.specs.Depth.{first_deep}
 
 -- a front of the words is viable, and no longer one is
@@ -26,11 +26,11 @@ pub record Taken : Type 0 where
   pub wanted : List Wanted
   pub next : Word
 
-abbrev also : Word → Taken → Taken
+abbrev pub also : Word → Taken → Taken
 also word taken = record taken { front = word ∷ taken.front }
 
 -- behind a word, with what further words do from what is wanted then
-abbrev on : Word → (List Wanted → Taken) → List Wanted → Option (List Wanted) → Taken
+abbrev pub on : Word → (List Wanted → Taken) → List Wanted → Option (List Wanted) → Taken
 on word further wanted (Some more) = also word (further more)
 on word further wanted None = record { front = []; wanted = wanted; next = word }
 
@@ -40,27 +40,34 @@ fronts (word ∷ words) wanted = on word (fronts words) wanted (after word wante
 
 -- nothing more has to come
 abbrev pub is_whole : List Wanted → Bool
-is_whole wanted = list_all is_optional wanted
+is_whole wanted = length (needed wanted) == 0
 
 -- a word is of a form that is left out where it stands
 abbrev pub is_left_out : Word → List Wanted → Bool
 is_left_out word [] = false
 is_left_out word (next ∷ behind) = is_left_out_at next word || (is_optional next && is_left_out word behind)
 
-abbrev reaching : Taken → Front
-reaching taken = Reaches (record {
-  words = length taken.front;
+-- what is found behind so many words, of which no one is too deep
+abbrev pub reaching : ℕ → Taken → Front
+reaching count taken = Reaches (record {
+  words = count + length taken.front;
   whole = is_whole taken.wanted;
   left_out = is_left_out taken.next taken.wanted;
 })
 
-abbrev unless_deep : Option Place → Front → Front
+abbrev pub unless_deep : Option Place → Front → Front
 unless_deep (Some place) front = TooDeep place
 unless_deep None front = front
 
-abbrev words_of : List PlacedWord → List Word
+abbrev pub words_of : List PlacedWord → List Word
 words_of words = map (λ (w : PlacedWord). w.word) words
+
+-- what is found of further words behind so many, of which the last is at the place, from what is wanted and the nodes that are open
+abbrev pub front_from : ℕ → Place → List PlacedWord → List Wanted → List OpenNode → Front
+front_from count last words wanted nodes =
+    unless_deep (first_deep last words wanted nodes) (reaching count (fronts (words_of words) wanted))
 
 -- what is found of words that are to be read as something
 abbrev pub front_of : Kind → List PlacedWord → Front
-front_of kind words = unless_deep (first_deep None words (start kind) []) (reaching (fronts (words_of words) (start kind)))
+front_of kind [] = reaching 0 (fronts [] (start kind))
+front_of kind (word ∷ words) = front_from 0 word.place (word ∷ words) (start kind) []

@@ -19,7 +19,7 @@ abbrev pub needed : List Wanted → List Wanted
 needed [] = []
 needed (next ∷ behind) = if is_optional next then needed behind else next ∷ behind
 
-abbrev either : Option Turn → List Wanted → Met → Met
+abbrev pub either : Option Turn → List Wanted → Met → Met
 either (Some done) behind other = takes done behind
 either None behind other = other
 
@@ -29,7 +29,7 @@ meets word [] = refuses []
 meets word (next ∷ behind) =
     either (turn next word) behind (if is_optional next then meets word behind else refuses (next ∷ behind))
 
-abbrev left_by : Met → Option (List Wanted)
+abbrev pub left_by : Met → Option (List Wanted)
 left_by (takes done behind) = Some (wanted_by done ++ behind)
 left_by (refuses wanted) = None
 
