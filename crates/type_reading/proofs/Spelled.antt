@@ -317,7 +317,7 @@ step-good all refused frames token g = stops refl
 
 -- ---- all tokens
 
-refused-none : (tokens : List Token) → outcome refusal tokens ≡ None
+pub refused-none : (tokens : List Token) → outcome refusal tokens ≡ None
 refused-none [] = refl
 refused-none (token ∷ tokens) = refused-none tokens
 
