@@ -3,3 +3,6 @@ pub mod TypeSpelling
 pub mod Spelling
 pub mod Binding
 pub mod Trees
+pub mod Lists
+pub mod Frames
+pub mod Machine
