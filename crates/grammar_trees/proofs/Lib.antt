@@ -5,3 +5,5 @@ pub mod Assoc
 pub mod ListsTaken
 pub mod PatternParts
 pub mod TypesTaken
+pub mod PatternKinds
+pub mod BindsTaken
