@@ -7,3 +7,4 @@ pub mod PatternParts
 pub mod TypesTaken
 pub mod PatternKinds
 pub mod BindsTaken
+pub mod FarForms
