@@ -8,3 +8,4 @@ pub mod TypesTaken
 pub mod PatternKinds
 pub mod BindsTaken
 pub mod FarForms
+pub mod Takes

@@ -1,4 +1,4 @@
-use Rattle.grammar_trees.proofs.FarForms.{cases_of-taken}
+use Rattle.grammar_trees.proofs.Takes.{expr-read}
 use Rattle.grammar_trees.proofs.laws.one_tree.Goals as goal
 
 pub returns : goal.returns
