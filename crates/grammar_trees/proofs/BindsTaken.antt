@@ -1,12 +1,12 @@
 -- Binds, comprehensions and quantified expressions are read.
 use Rattle.std.proofs.Common.{◌≡◌, ℕ, List, [], ◌∷◌, ◌++◌, refl, sym, subst, arith}
 use Rattle.abstract_syntax.specs.Expressions.{ExprTree, MaybeExpr, BindTree, BindTrees, PatternTree, PatternTrees, set_comprehension, map_comprehension, sequence_comprehension, for_all, exists_some, exists_one, iota_of, left_out, given_expr, bind_in, no_binds, one_bind, no_patterns, one_pattern}
-use Rattle.grammar_trees.specs.Pulls.{far_pull, closed}
+use Rattle.grammar_words.specs.Pulls.{far_pull, closed}
 use Rattle.grammar_trees.specs.Spelling.{spelling, bind_spelling, binds_spelling, further_binds, pattern_spelling, patterns_spelling, further_patterns}
 use Rattle.grammar_trees.specs.Binding.{HasOnePattern, AreSomeBinds, Binds, IsBind, AreBinds, IsPattern, ArePatterns}
 use Rattle.grammar_trees.specs.Lists.{then_binds, then_patterns, and_bind, and_pattern, only_pattern}
 use Rattle.grammar_trees.specs.Frames.{BindsFor, Body, Frame, State, set_each, map_each, all_of, some_of, one_of, the_one, set_such, map_such, all_body, some_body, one_body, the_body, body, condition, bind_set, bind_patterns, wants, has, wants_pattern}
-use Rattle.grammar_trees.specs.Machine.{in_mode, with_body, taken, further_bound, TypeReader, step}
+use Rattle.grammar_trees.specs.Machine.{in_mode, with_body, further_bound, TypeReader, step}
 use Rattle.grammar_words.specs.Tokens.{plain}
 use Rattle.grammar_words.specs.Written.{Written, word}
 use Rattle.vdm_kinds.specs.declared.place.Place.{Place}
@@ -70,32 +70,44 @@ binds-leads types n ws for (one_bind b bs) w place fs final after t h g f c q s 
 
 pub set_comprehension-taken : (types : TypeReader) (element : ExprTree) (binds : BindTrees) (such : MaybeExpr) (place : Place) → Taken types element → BindsTaken types binds → GivenTaken types such → Taken types (set_comprehension element binds such place)
 set_comprehension-taken types element binds left_out place t u v =
-    record { taken = λ m fs b p. at_token (plain word_is.OpenCurly place) refl (part element word_is.Bar t b.0 below_one small (λ spot. refl)
-      (binds-leads types closed [] (set_each element) binds word_is.CloseCurly place fs (λ (bs : BindTrees). in_mode (has (set_comprehension element bs left_out place)) fs) _ u b.1 b.2 (λ bs ps spot gs. refl) below_one
-      (λ bs ps set spot. refl) (λ bs ps set spot. refl) nothing_more)) }
+    record {
+      taken = λ m fs b p. at_token (plain word_is.OpenCurly place) refl (part element word_is.Bar t b.0 below_one small (λ spot. refl)
+          (binds-leads types closed [] (set_each element) binds word_is.CloseCurly place fs (λ (bs : BindTrees). in_mode (has (set_comprehension element bs left_out place)) fs) _ u b.1 b.2 (λ bs ps spot gs. refl) below_one
+          (λ bs ps set spot. refl) (λ bs ps set spot. refl) nothing_more));
+    }
 set_comprehension-taken types element binds (given_expr e) place t u v =
-    record { taken = λ m fs b p. at_token (plain word_is.OpenCurly place) refl (part element word_is.Bar t b.0 below_one small (λ spot. refl)
-      (binds-leads types closed (spelling e ++ word word_is.CloseCurly ∷ []) (set_each element) binds word_is.Ampersand place fs (λ (bs : BindTrees). in_mode wants (condition (set_such element bs) place ∷ fs)) _ u b.1 b.2 (λ bs ps spot gs. refl) below_one
-      (λ bs ps set spot. refl) (λ bs ps set spot. refl) (part e word_is.CloseCurly v b.3 below_one small (λ spot. refl) nothing_more))) }
+    record {
+      taken = λ m fs b p. at_token (plain word_is.OpenCurly place) refl (part element word_is.Bar t b.0 below_one small (λ spot. refl)
+          (binds-leads types closed (spelling e ++ word word_is.CloseCurly ∷ []) (set_each element) binds word_is.Ampersand place fs (λ (bs : BindTrees). in_mode wants (condition (set_such element bs) place ∷ fs)) _ u b.1 b.2 (λ bs ps spot gs. refl) below_one
+          (λ bs ps set spot. refl) (λ bs ps set spot. refl) (part e word_is.CloseCurly v b.3 below_one small (λ spot. refl) nothing_more)));
+    }
 
 pub map_comprehension-taken : (types : TypeReader) (key value : ExprTree) (binds : BindTrees) (such : MaybeExpr) (place : Place) → Taken types key → Taken types value → BindsTaken types binds → GivenTaken types such → Taken types (map_comprehension key value binds such place)
 map_comprehension-taken types key value binds left_out place t w u v =
-    record { taken = λ m fs b p. at_token (plain word_is.OpenCurly place) refl (part key word_is.MapsTo t b.0 below_one small (λ spot. refl) (part value word_is.Bar w b.1 below_one small (λ spot. refl)
-      (binds-leads types closed [] (map_each key value) binds word_is.CloseCurly place fs (λ (bs : BindTrees). in_mode (has (map_comprehension key value bs left_out place)) fs) _ u b.2 b.3 (λ bs ps spot gs. refl) below_one
-      (λ bs ps set spot. refl) (λ bs ps set spot. refl) nothing_more))) }
+    record {
+      taken = λ m fs b p. at_token (plain word_is.OpenCurly place) refl (part key word_is.MapsTo t b.0 below_one small (λ spot. refl) (part value word_is.Bar w b.1 below_one small (λ spot. refl)
+          (binds-leads types closed [] (map_each key value) binds word_is.CloseCurly place fs (λ (bs : BindTrees). in_mode (has (map_comprehension key value bs left_out place)) fs) _ u b.2 b.3 (λ bs ps spot gs. refl) below_one
+          (λ bs ps set spot. refl) (λ bs ps set spot. refl) nothing_more)));
+    }
 map_comprehension-taken types key value binds (given_expr e) place t w u v =
-    record { taken = λ m fs b p. at_token (plain word_is.OpenCurly place) refl (part key word_is.MapsTo t b.0 below_one small (λ spot. refl) (part value word_is.Bar w b.1 below_one small (λ spot. refl)
-      (binds-leads types closed (spelling e ++ word word_is.CloseCurly ∷ []) (map_each key value) binds word_is.Ampersand place fs (λ (bs : BindTrees). in_mode wants (condition (map_such key value bs) place ∷ fs)) _ u b.2 b.3 (λ bs ps spot gs. refl) below_one
-      (λ bs ps set spot. refl) (λ bs ps set spot. refl) (part e word_is.CloseCurly v b.4 below_one small (λ spot. refl) nothing_more)))) }
+    record {
+      taken = λ m fs b p. at_token (plain word_is.OpenCurly place) refl (part key word_is.MapsTo t b.0 below_one small (λ spot. refl) (part value word_is.Bar w b.1 below_one small (λ spot. refl)
+          (binds-leads types closed (spelling e ++ word word_is.CloseCurly ∷ []) (map_each key value) binds word_is.Ampersand place fs (λ (bs : BindTrees). in_mode wants (condition (map_such key value bs) place ∷ fs)) _ u b.2 b.3 (λ bs ps spot gs. refl) below_one
+          (λ bs ps set spot. refl) (λ bs ps set spot. refl) (part e word_is.CloseCurly v b.4 below_one small (λ spot. refl) nothing_more))));
+    }
 
 pub sequence_comprehension-taken : (types : TypeReader) (item : ExprTree) (pattern : PatternTree) (set : ExprTree) (such : MaybeExpr) (place : Place) → Taken types item → PatternTaken types pattern → Taken types set → GivenTaken types such → Taken types (sequence_comprehension item pattern set such place)
 sequence_comprehension-taken types item pattern set left_out place t q u v =
-    record { taken = λ m fs b p. at_token (plain word_is.OpenSquare place) refl (part item word_is.Bar t b.0 below_one small (λ spot. refl)
-      (pattern_part pattern (word_is.Operator sign_is.InSet) q b.1 tt in_set_below refl (λ spot. refl) (part set word_is.CloseSquare u b.2 below_one small (λ spot. refl) nothing_more))) }
+    record {
+      taken = λ m fs b p. at_token (plain word_is.OpenSquare place) refl (part item word_is.Bar t b.0 below_one small (λ spot. refl)
+          (pattern_part pattern (word_is.Operator sign_is.InSet) q b.1 tt in_set_below refl (λ spot. refl) (part set word_is.CloseSquare u b.2 below_one small (λ spot. refl) nothing_more)));
+    }
 sequence_comprehension-taken types item pattern set (given_expr e) place t q u v =
-    record { taken = λ m fs b p. at_token (plain word_is.OpenSquare place) refl (part item word_is.Bar t b.0 below_one small (λ spot. refl)
-      (pattern_part pattern (word_is.Operator sign_is.InSet) q b.1 tt in_set_below refl (λ spot. refl) (part set word_is.Ampersand u b.2 below_one small (λ spot. refl)
-      (part e word_is.CloseSquare v b.3 below_one small (λ spot. refl) nothing_more)))) }
+    record {
+      taken = λ m fs b p. at_token (plain word_is.OpenSquare place) refl (part item word_is.Bar t b.0 below_one small (λ spot. refl)
+          (pattern_part pattern (word_is.Operator sign_is.InSet) q b.1 tt in_set_below refl (λ spot. refl) (part set word_is.Ampersand u b.2 below_one small (λ spot. refl)
+          (part e word_is.CloseSquare v b.3 below_one small (λ spot. refl) nothing_more))));
+    }
 
 -- ---- quantified expressions
 
@@ -104,21 +116,27 @@ body-leads types b e place fs t g = last_operand e (body b place) t g (reach-pos
 
 pub for_all-taken : (types : TypeReader) (binds : BindTrees) (e : ExprTree) (place : Place) → BindsTaken types binds → Taken types e → Taken types (for_all binds e place)
 for_all-taken types binds e place u t =
-    record { taken = λ m fs b p. at_token (plain word_is.Forall place) refl
-      (binds-leads types far_pull (spelling e) all_of binds word_is.Ampersand place fs (λ (bs : BindTrees). in_mode wants (body (all_body bs) place ∷ fs)) _ u b.0 b.1 (λ bs ps spot gs. refl) below_one
-      (λ bs ps set spot. refl) (λ bs ps set spot. refl) (body-leads types (all_body binds) e place fs t b.2)) }
+    record {
+      taken = λ m fs b p. at_token (plain word_is.Forall place) refl
+          (binds-leads types far_pull (spelling e) all_of binds word_is.Ampersand place fs (λ (bs : BindTrees). in_mode wants (body (all_body bs) place ∷ fs)) _ u b.0 b.1 (λ bs ps spot gs. refl) below_one
+          (λ bs ps set spot. refl) (λ bs ps set spot. refl) (body-leads types (all_body binds) e place fs t b.2));
+    }
 
 pub exists_some-taken : (types : TypeReader) (binds : BindTrees) (e : ExprTree) (place : Place) → BindsTaken types binds → Taken types e → Taken types (exists_some binds e place)
 exists_some-taken types binds e place u t =
-    record { taken = λ m fs b p. at_token (plain word_is.Exists place) refl
-      (binds-leads types far_pull (spelling e) some_of binds word_is.Ampersand place fs (λ (bs : BindTrees). in_mode wants (body (some_body bs) place ∷ fs)) _ u b.0 b.1 (λ bs ps spot gs. refl) below_one
-      (λ bs ps set spot. refl) (λ bs ps set spot. refl) (body-leads types (some_body binds) e place fs t b.2)) }
+    record {
+      taken = λ m fs b p. at_token (plain word_is.Exists place) refl
+          (binds-leads types far_pull (spelling e) some_of binds word_is.Ampersand place fs (λ (bs : BindTrees). in_mode wants (body (some_body bs) place ∷ fs)) _ u b.0 b.1 (λ bs ps spot gs. refl) below_one
+          (λ bs ps set spot. refl) (λ bs ps set spot. refl) (body-leads types (some_body binds) e place fs t b.2));
+    }
 
 pub exists_one-taken : (types : TypeReader) (bind : BindTree) (e : ExprTree) (place : Place) → BindTaken types bind → Taken types e → Taken types (exists_one bind e place)
 exists_one-taken types bind e place u t =
-    record { taken = λ m fs b p. at_token (plain word_is.ExistsOne place) refl
-      (bind-leads types far_pull (spelling e) one_of no_binds bind word_is.Ampersand place fs (λ (bs : BindTrees) (d : BindTree). in_mode wants (body (one_body d) place ∷ fs)) _ u b.0 (λ bs ps spot gs. refl) below_one
-      (λ bs ps set spot. refl) (body-leads types (one_body bind) e place fs t b.1)) }
+    record {
+      taken = λ m fs b p. at_token (plain word_is.ExistsOne place) refl
+          (bind-leads types far_pull (spelling e) one_of no_binds bind word_is.Ampersand place fs (λ (bs : BindTrees) (d : BindTree). in_mode wants (body (one_body d) place ∷ fs)) _ u b.0 (λ bs ps spot gs. refl) below_one
+          (λ bs ps set spot. refl) (body-leads types (one_body bind) e place fs t b.1));
+    }
 
 iota-leads : (types : TypeReader) (bind : BindTree) (e : ExprTree) (place : Place) (fs : List Frame) → BindTaken types bind → IsBind bind → HasOnePattern bind → Taken types e → Binds e far_pull → Leads types far_pull (bind_spelling bind ++ word word_is.Ampersand ∷ spelling e) (in_mode wants_pattern (bind_patterns the_one no_binds no_patterns place ∷ fs)) (in_mode (has (iota_of bind e place)) fs)
 iota-leads types (bind_in no_patterns set) e place fs u g o t b = absurd o

@@ -1,7 +1,7 @@
 -- What ends an expression: a word that pulls less than the tree's right end.
-use Rattle.std.proofs.Common.{◌≡◌, ℕ, ◌<◌, ◌≤◌, min, Bool, true, false, nat_lt, if◌then◌else◌, List, [], ◌∷◌, refl, ap, ◌∙◌, arith}
+use Rattle.std.proofs.Common.{◌≡◌, ℕ, ◌<◌, ◌≤◌, true, false, nat_lt, List, [], ◌∷◌, refl, arith}
 use Rattle.std.proofs.lemmas.Bool.Decides.{nat_tests}
-use Rattle.std.proofs.Math.Nat.{min-le_left, min-le_right, le-min}
+use Rattle.std.proofs.Math.Nat.{le-min}
 use Rattle.vdm_kinds.specs.declared.place.Place.{Place}
 use Rattle.vdm_kinds.specs.declared.sign.Sign.{Sign}
 use Rattle.vdm_kinds.specs.declared.sign.Sign.TheVariants as sign_is
@@ -9,10 +9,10 @@ use Rattle.abstract_syntax.specs.Expressions.{ExprTree, prefixed, joined}
 use Rattle.grammar_words.specs.declared.word.Word.{Word}
 use Rattle.grammar_words.specs.declared.word.Word.TheVariants as word_is
 use Rattle.grammar_words.specs.Tokens.{Token, plain}
-use Rattle.grammar_trees.specs.Pulls.{right_pull}
+use Rattle.grammar_words.specs.Pulls.{right_pull}
 use Rattle.grammar_trees.specs.Binding.{reach}
 use Rattle.grammar_trees.specs.Frames.{Frame, has}
-use Rattle.grammar_trees.specs.Machine.{TypeReader, in_mode, pull, completed, word_pull, go_on, follow_word, follow_plain, run}
+use Rattle.grammar_trees.specs.Machine.{TypeReader, in_mode, pull, completed, word_pull, follow_word, follow_plain, run}
 
 -- the word doesn't go on with a name, and pulls less
 abbrev pub word_below : Word → ℕ → Type 0

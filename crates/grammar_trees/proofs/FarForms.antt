@@ -1,12 +1,12 @@
 -- What reaches as far to the right as it can is read, and `cases`.
 use Rattle.std.proofs.Common.{◌≡◌, ℕ, List, [], ◌∷◌, ◌++◌, Option, Some, None, refl, sym, subst, append_assoc}
 use Rattle.abstract_syntax.specs.Expressions.{ExprTree, MaybeExpr, DefinedTrees, BranchTrees, CaseTrees, BindTree, BindTrees, PatternTree, PatternTrees, let_in, let_be, def_in, if_else, cases_of, left_out, given_expr, no_defined, one_defined, no_branches, one_branch, no_cases, one_case, bind_in, no_binds, no_patterns, one_pattern}
-use Rattle.grammar_trees.specs.Pulls.{far_pull, closed}
+use Rattle.grammar_words.specs.Pulls.{far_pull, closed}
 use Rattle.grammar_trees.specs.Spelling.{declared_spelling, spelling, others_spelling, definitions_spelling, further_definitions, branches_spelling, cases_spelling, further_cases, bind_spelling, pattern_spelling, patterns_spelling, further_patterns}
 use Rattle.grammar_trees.specs.Binding.{AreSomePatterns, AreSomeDefinitions, AreSomeCases, IsDeclared, Binds, IsGiven, AreDefinitions, AreBranches, AreCases, IsBind, IsPattern, ArePatterns}
 use Rattle.grammar_trees.specs.Lists.{then_defined, then_branches, then_cases, then_patterns, and_defined, and_branch, and_case, and_pattern, only_pattern}
 use Rattle.grammar_trees.specs.Frames.{Frame, State, such_one, let_body, such_body, def_body, else_body, body, let_value, let_such, if_then, elseif_then, case_value, others_value, let_start, let_next, case_patterns, let_type, st_then, arrow_then, wants, has, wants_pattern, has_pattern, awaits, typing}
-use Rattle.grammar_trees.specs.Machine.{in_mode, others_of, taken, TypeReader, step}
+use Rattle.grammar_trees.specs.Machine.{in_mode, others_of, TypeReader, step}
 use Rattle.grammar_words.specs.Tokens.{plain}
 use Rattle.grammar_words.specs.Written.{Written, word}
 use Rattle.abstract_syntax.specs.Types.{TypeTree}
@@ -57,8 +57,10 @@ first-leads types n ws after test value (one_branch c v more) place fs t ts b bs
 
 pub if_else-taken : (types : TypeReader) (test value : ExprTree) (elseifs : BranchTrees) (otherwise : ExprTree) (place : Place) → Taken types test → Taken types value → BranchesTaken types elseifs → Taken types otherwise → Taken types (if_else test value elseifs otherwise place)
 if_else-taken types test value elseifs otherwise place t u v w =
-    record { taken = λ m fs b p. at_token (plain word_is.If place) refl (part test word_is.Then t b.0 below_one small (λ spot. refl)
-      (first-leads types far_pull (spelling otherwise) _ test value elseifs place fs u v b.1 b.2 (body-leads types (else_body test value elseifs) otherwise place fs w b.3))) }
+    record {
+      taken = λ m fs b p. at_token (plain word_is.If place) refl (part test word_is.Then t b.0 below_one small (λ spot. refl)
+          (first-leads types far_pull (spelling otherwise) _ test value elseifs place fs u v b.1 b.2 (body-leads types (else_body test value elseifs) otherwise place fs w b.3)));
+    }
 
 -- ---- definitions
 
@@ -96,8 +98,10 @@ let-leads types n ws (one_defined q d u ds) place fs after reader ts h bs r =
 
 pub let_in-taken : (types : TypeReader) → ReadsTypes types → (definitions : DefinedTrees) (e : ExprTree) (place : Place) → DefinitionsTaken types definitions → Taken types e → Taken types (let_in definitions e place)
 let_in-taken types reader definitions e place u t =
-    record { taken = λ m fs b p. at_token (plain word_is.Let place) refl
-      (let-leads types far_pull (spelling e) definitions place fs _ reader u b.0 b.1 (body-leads types (let_body definitions) e place fs t b.2)) }
+    record {
+      taken = λ m fs b p. at_token (plain word_is.Let place) refl
+          (let-leads types far_pull (spelling e) definitions place fs _ reader u b.0 b.1 (body-leads types (let_body definitions) e place fs t b.2));
+    }
 
 -- the bind behind `let`, and the word behind it
 such-leads : (types : TypeReader) (n : ℕ) (ws : List Written) (bind : BindTree) (w : Word) (place : Place) (fs : List Frame) (next : BindTrees → BindTree → State) (after : State) → BindTaken types bind → IsBind bind → word_below w 1 → IsBehind types such_one w place fs next → Leads types n ws (next no_binds bind) after → Leads types n (bind_spelling bind ++ word w ∷ ws) (in_mode wants_pattern (let_start place ∷ fs)) after
@@ -116,20 +120,26 @@ such-leads types n ws (bind_in (one_pattern p (one_pattern q ps)) set) w place f
 
 pub let_be-taken : (types : TypeReader) (bind : BindTree) (such : MaybeExpr) (e : ExprTree) (place : Place) → BindTaken types bind → GivenTaken types such → Taken types e → Taken types (let_be bind such e place)
 let_be-taken types bind left_out e place u v t =
-    record { taken = λ m fs b p. at_token (plain word_is.Let place) refl
-      (such-leads types far_pull (spelling e) bind word_is.In place fs (λ (bs : BindTrees) (d : BindTree). in_mode wants (body (such_body d left_out) place ∷ fs)) _ u b.0 below_one (λ bs ps set spot. refl)
-      (body-leads types (such_body bind left_out) e place fs t b.2)) }
+    record {
+      taken = λ m fs b p. at_token (plain word_is.Let place) refl
+          (such-leads types far_pull (spelling e) bind word_is.In place fs (λ (bs : BindTrees) (d : BindTree). in_mode wants (body (such_body d left_out) place ∷ fs)) _ u b.0 below_one (λ bs ps set spot. refl)
+          (body-leads types (such_body bind left_out) e place fs t b.2));
+    }
 let_be-taken types bind (given_expr such) e place u v t =
-    record { taken = λ m fs b p. at_token (plain word_is.Let place) refl
-      (such-leads types far_pull (word word_is.St ∷ spelling such ++ word word_is.In ∷ spelling e) bind word_is.Be place fs (λ (bs : BindTrees) (d : BindTree). in_mode (awaits (st_then (let_such d place))) fs) _ u b.0 below_one (λ bs ps set spot. refl)
-      (at_any word_is.St (λ spot. refl) (part such word_is.In v b.1 below_one small (λ spot. refl)
-      (body-leads types (such_body bind (given_expr such)) e place fs t b.2)))) }
+    record {
+      taken = λ m fs b p. at_token (plain word_is.Let place) refl
+          (such-leads types far_pull (word word_is.St ∷ spelling such ++ word word_is.In ∷ spelling e) bind word_is.Be place fs (λ (bs : BindTrees) (d : BindTree). in_mode (awaits (st_then (let_such d place))) fs) _ u b.0 below_one (λ bs ps set spot. refl)
+          (at_any word_is.St (λ spot. refl) (part such word_is.In v b.1 below_one small (λ spot. refl)
+          (body-leads types (such_body bind (given_expr such)) e place fs t b.2))));
+    }
 
 pub def_in-taken : (types : TypeReader) (pattern : PatternTree) (value e : ExprTree) (place : Place) → PatternTaken types pattern → Taken types value → Taken types e → Taken types (def_in pattern value e place)
 def_in-taken types pattern value e place u v t =
-    record { taken = λ m fs b p. at_token (plain word_is.Def place) refl
-      (pattern_part pattern (word_is.Operator sign_is.Equal) u b.0 tt in_set_below refl (λ spot. refl)
-      (part value word_is.In v b.1 below_one small (λ spot. refl) (body-leads types (def_body pattern value) e place fs t b.2))) }
+    record {
+      taken = λ m fs b p. at_token (plain word_is.Def place) refl
+          (pattern_part pattern (word_is.Operator sign_is.Equal) u b.0 tt in_set_below refl (λ spot. refl)
+          (part value word_is.In v b.1 below_one small (λ spot. refl) (body-leads types (def_body pattern value) e place fs t b.2)));
+    }
 
 -- ---- cases
 
@@ -174,5 +184,7 @@ cases_of-leads types n e (one_case qs w cs) others place fs ts h bs u g =
 
 pub cases_of-taken : (types : TypeReader) (e : ExprTree) (cases : CaseTrees) (others : MaybeExpr) (place : Place) → Taken types e → CasesTaken types cases → GivenTaken types others → Taken types (cases_of e cases others place)
 cases_of-taken types e cases others place t u v =
-    record { taken = λ m fs b p. at_token (plain word_is.Cases place) refl (part e word_is.Colon t b.0 below_one small (λ spot. refl)
-      (cases_of-leads types closed e cases others place fs u b.1 b.2 v b.3)) }
+    record {
+      taken = λ m fs b p. at_token (plain word_is.Cases place) refl (part e word_is.Colon t b.0 below_one small (λ spot. refl)
+          (cases_of-leads types closed e cases others place fs u b.1 b.2 v b.3));
+    }

@@ -1,15 +1,15 @@
 -- Tokens that are written so lead from one state to another; and what is read of trees, one part after the other.
-use Rattle.std.proofs.Common.{◌≡◌, ℕ, ℤ, ◌<◌, ◌≤◌, nat_lt, List, [], ◌∷◌, ◌++◌, refl, ap, sym, subst, ◌∙◌, arith, append_assoc}
+use Rattle.std.proofs.Common.{◌≡◌, ℕ, ℤ, ◌<◌, ◌≤◌, List, [], ◌∷◌, ◌++◌, refl, ap, sym, subst, ◌∙◌, arith, append_assoc}
 use Rattle.vdm_kinds.specs.declared.place.Place.{Place}
-use Rattle.abstract_syntax.specs.Expressions.{ExprTree, PatternTree}
+use Rattle.abstract_syntax.specs.Expressions.{ExprTree}
 use Rattle.grammar_words.specs.declared.word.Word.{Word}
 use Rattle.grammar_words.specs.Tokens.{Token, plain, whole}
-use Rattle.grammar_words.specs.Written.{Written, at, word, number, IsToken, AreTokens, at_word}
-use Rattle.grammar_trees.specs.Pulls.{far_pull, postfix_pull}
-use Rattle.grammar_trees.specs.Spelling.{spelling, pattern_spelling}
-use Rattle.grammar_trees.specs.Binding.{reach, Binds, IsPattern}
-use Rattle.grammar_trees.specs.Frames.{Frame, State, Built, wants, has, wants_pattern, has_pattern, body, Body}
-use Rattle.grammar_trees.specs.Machine.{TypeReader, in_mode, pull, completed, with_body, word_pull, go_on, follow_word, follow_plain, step, run}
+use Rattle.grammar_words.specs.Written.{Written, at, word, number, IsToken, at_word}
+use Rattle.grammar_words.specs.Pulls.{far_pull}
+use Rattle.grammar_trees.specs.Spelling.{spelling}
+use Rattle.grammar_trees.specs.Binding.{reach, Binds}
+use Rattle.grammar_trees.specs.Frames.{Frame, State, wants, has}
+use Rattle.grammar_trees.specs.Machine.{TypeReader, in_mode, pull, completed, word_pull, go_on, follow_word, step, run}
 use Rattle.grammar_trees.proofs.Ends.{word_below, Ends, Ends-more, reach-positive, completes, follow_plain-word, if-most}
 
 -- the tokens begin as written, and these are left
@@ -98,9 +98,11 @@ part {types = types} {n = n} {ws = ws} {fs = fs} {after = after} e w t b c p s r
 -- the operand before a sign or a postfix
 pub before_word : {types : TypeReader} {n : ℕ} {ws : List Written} {fs : List Frame} {middle after : State} (m : ℕ) (e : ExprTree) (w : Word) (place : Place) → Taken types e → Binds e m → stack_pull fs ≤ m → m ≤ word_pull w → word_below w (reach e) → go_on w place e fs ≡ middle → Leads types n ws middle after → Leads types n (spelling e ++ at_word w place ∷ ws) (in_mode wants fs) after
 before_word {types = types} {n = n} {ws = ws} {fs = fs} {after = after} m e w place t b p q c s r =
-    record { leads = behind-leads types n m e fs (at_word w place) ws after t b p
-      (λ u k. subst (λ (v : Token). Ends (v ∷ []) (reach e)) (sym k) (record { below = c }))
-      (at_token (plain w place) (follow_plain-word w (reach e) place e fs c ∙ stays w place e fs (omega arith) ∙ s) r) }
+    record {
+      leads = behind-leads types n m e fs (at_word w place) ws after t b p
+          (λ u k. subst (λ (v : Token). Ends (v ∷ []) (reach e)) (sym k) (record { below = c }))
+          (at_token (plain w place) (follow_plain-word w (reach e) place e fs c ∙ stays w place e fs (omega arith) ∙ s) r);
+    }
 
 -- the last operand, which a frame takes
 pub last_operand : {types : TypeReader} {n : ℕ} {fs : List Frame} (e : ExprTree) (f : Frame) → Taken types e → Binds e (pull f) → n ≤ reach e → n ≤ pull f → Leads types n (spelling e) (in_mode wants (f ∷ fs)) (in_mode (has (completed f e)) fs)
@@ -116,4 +118,3 @@ number-leads types n m ws s after r (t ∷ ts) rest h k =
 pub at_number : {types : TypeReader} {n : ℕ} {ws : List Written} {s middle after : State} (m : ℤ) → ((place : Place) → step types s (whole m place) ≡ middle) → Leads types n ws middle after → Leads types n (number m ∷ ws) s after
 at_number {types = types} {n = n} {ws = ws} {s = s} {after = after} m e r =
     record { leads = number-leads types n m ws s after (λ place. subst (λ (m : State). Leads types n ws m after) (sym (e place)) r) }
-

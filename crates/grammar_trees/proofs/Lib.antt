@@ -9,3 +9,4 @@ pub mod PatternKinds
 pub mod BindsTaken
 pub mod FarForms
 pub mod Takes
+pub mod Trees

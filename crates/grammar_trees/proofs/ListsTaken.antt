@@ -1,12 +1,12 @@
 -- Lists of expressions, of pairs and of fields are read.
 use Rattle.std.proofs.Common.{◌≡◌, ℕ, List, [], ◌∷◌, ◌++◌, refl, subst}
 use Rattle.abstract_syntax.specs.Expressions.{ExprTree, ExprTrees, MaybeExpr, MapletTrees, FieldValueTrees, set_enumeration, map_enumeration, sequence_enumeration, make_tuple, make_record, modify_record, create, apply, no_exprs, one_expr, left_out, given_expr, no_maplets, one_maplet, no_field_values, one_field_value}
-use Rattle.grammar_trees.specs.Pulls.{far_pull, closed}
+use Rattle.grammar_words.specs.Pulls.{far_pull, closed}
 use Rattle.grammar_trees.specs.Spelling.{spelling, exprs_spelling, further_exprs, maplets_spelling, further_maplets, field_values_spelling, further_field_values}
 use Rattle.grammar_trees.specs.Binding.{AreTwoExprs, AreSomeMaplets, AreSomeFields, Binds, AreExprs, AreMaplets, AreFieldValues}
 use Rattle.grammar_trees.specs.Lists.{then_exprs, then_maplets, then_field_values, and_expr, and_maplet, and_field_value}
-use Rattle.grammar_trees.specs.Frames.{Listed, Frame, bracket, set_of, sequence_of, tuple_of, record_of, new_of, applied_to, items, tuple_start, map_value, made, field_name, wants, has, awaits}
-use Rattle.grammar_trees.specs.Machine.{in_mode, whole_list, taken, TypeReader, step}
+use Rattle.grammar_trees.specs.Frames.{Listed, Frame, set_of, sequence_of, tuple_of, record_of, new_of, applied_to, items, tuple_start, map_value, made, field_name, wants, has, awaits}
+use Rattle.grammar_trees.specs.Machine.{in_mode, whole_list, TypeReader, step}
 use Rattle.grammar_words.specs.Tokens.{identifier, make_named, plain}
 use Rattle.grammar_words.specs.Written.{word}
 use Rattle.vdm_kinds.specs.declared.name.Name.{Name}
@@ -89,18 +89,24 @@ sequence_enumeration-taken types elements place t =
 
 pub make_record-taken : (types : TypeReader) (type_name : TypeName) (fields : ExprTrees) (place : Place) → ExprsTaken types fields → Taken types (make_record type_name fields place)
 make_record-taken types type_name fields place t =
-    record { taken = λ m fs b p. type_name-leads types closed make_named made type_name place fs _ _ _ (λ first. refl) b.0
-      (list-leads types closed (record_of type_name) fields place fs t b.1 (λ spot. refl)) }
+    record {
+      taken = λ m fs b p. type_name-leads types closed make_named made type_name place fs _ _ _ (λ first. refl) b.0
+          (list-leads types closed (record_of type_name) fields place fs t b.1 (λ spot. refl));
+    }
 
 pub create-taken : (types : TypeReader) (class : Name) (class_place : Place) (arguments : ExprTrees) (place : Place) → ExprsTaken types arguments → Taken types (create class class_place arguments place)
 create-taken types class class_place arguments place t =
-    record { taken = λ m fs b p. at_token (plain word_is.New place) refl (at_token (identifier class class_place) refl (at_any word_is.OpenRound (λ spot. refl)
-      (list-leads types closed (new_of class class_place) arguments place fs t b (λ spot. refl)))) }
+    record {
+      taken = λ m fs b p. at_token (plain word_is.New place) refl (at_token (identifier class class_place) refl (at_any word_is.OpenRound (λ spot. refl)
+          (list-leads types closed (new_of class class_place) arguments place fs t b (λ spot. refl))));
+    }
 
 pub apply-taken : (types : TypeReader) (head : ExprTree) (arguments : ExprTrees) (place : Place) → Taken types head → ExprsTaken types arguments → Taken types (apply head arguments place)
 apply-taken types head arguments place t u =
-    record { taken = λ m fs b p. before_word m head word_is.OpenRound place t b.0 p b.1 b.2 refl
-      (list-leads types closed (applied_to head) arguments place fs u b.3 (λ spot. refl)) }
+    record {
+      taken = λ m fs b p. before_word m head word_is.OpenRound place t b.0 p b.1 b.2 refl
+          (list-leads types closed (applied_to head) arguments place fs u b.3 (λ spot. refl));
+    }
 
 tuple-leads : (types : TypeReader) (n : ℕ) (parts : ExprTrees) (place : Place) (fs : List Frame) → ExprsTaken types parts → AreTwoExprs parts → AreExprs parts → Leads types n (exprs_spelling parts ++ word word_is.CloseRound ∷ []) (in_mode wants (tuple_start place ∷ fs)) (in_mode (has (make_tuple parts place)) fs)
 tuple-leads types n no_exprs place fs t h b = absurd h
@@ -155,6 +161,7 @@ field_values-leads types n target (one_field_value name name_place value (one_fi
 
 pub modify_record-taken : (types : TypeReader) (target : ExprTree) (fields : FieldValueTrees) (place : Place) → Taken types target → FieldValuesTaken types fields → Taken types (modify_record target fields place)
 modify_record-taken types target fields place t u =
-    record { taken = λ m fs b p. at_token (plain word_is.Modify place) refl (at_any word_is.OpenRound (λ spot. refl)
-      (part target word_is.Comma t b.0 below_one small (λ spot. refl) (field_values-leads types closed target fields no_field_values place fs u b.1 b.2))) }
-
+    record {
+      taken = λ m fs b p. at_token (plain word_is.Modify place) refl (at_any word_is.OpenRound (λ spot. refl)
+          (part target word_is.Comma t b.0 below_one small (λ spot. refl) (field_values-leads types closed target fields no_field_values place fs u b.1 b.2)));
+    }

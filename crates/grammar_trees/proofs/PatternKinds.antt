@@ -1,8 +1,8 @@
 -- Each kind of pattern is read.
 use Rattle.std.proofs.Common.{◌≡◌, ℕ, true, false, List, [], ◌∷◌, ◌++◌, refl, subst}
 use Rattle.abstract_syntax.specs.Expressions.{ExprTree, PatternTree, PatternTrees, MapletPatterns, any_value, bound, literal_pattern, equal_to, set_pattern, sequence_pattern, map_pattern, empty_map_pattern, tuple_pattern, record_pattern, no_patterns, one_pattern, no_maplet_patterns, one_maplet_pattern}
-use Rattle.grammar_trees.specs.Pulls.{closed}
-use Rattle.grammar_trees.specs.TypeSpelling.{literal_token, single}
+use Rattle.grammar_words.specs.Pulls.{closed}
+use Rattle.type_reading.specs.TypeSpelling.{literal_token}
 use Rattle.grammar_trees.specs.Spelling.{pattern_spelling, patterns_spelling, further_patterns, maplet_patterns_spelling, further_maplet_patterns}
 use Rattle.grammar_trees.specs.Binding.{AreTwoPatterns, AreSomeMapletPatterns, IsPattern, ArePatterns, AreMapletPatterns}
 use Rattle.grammar_trees.specs.Lists.{then_patterns, then_maplet_patterns, and_pattern, and_maplet_pattern, only_pattern}
@@ -102,7 +102,7 @@ sequence_pattern-taken types ps place t =
 pub record_pattern-taken : (types : TypeReader) (type_name : TypeName) (ps : PatternTrees) (place : Place) → PatternsTaken types ps → PatternTaken types (record_pattern type_name ps place)
 record_pattern-taken types type_name ps place t =
     single-taken types (record_pattern type_name ps place) (λ g fs. type_name-leads types closed make_named made_pattern type_name place fs _ _ _ (λ first. refl) g.0
-      (pattern_list-leads types closed (record_like type_name) ps place fs t g.1 (λ spot. refl)))
+    (pattern_list-leads types closed (record_like type_name) ps place fs t g.1 (λ spot. refl)))
 
 tuple-leads : (types : TypeReader) (n : ℕ) (ps : PatternTrees) (place : Place) (fs : List Frame) → PatternsTaken types ps → AreTwoPatterns ps → ArePatterns ps → Leads types n (patterns_spelling ps ++ word word_is.CloseRound ∷ []) (in_mode wants_pattern (tuple_pattern_start place ∷ fs)) (in_mode (has_pattern (tuple_pattern ps place)) fs)
 tuple-leads types n no_patterns place fs t h g = absurd h

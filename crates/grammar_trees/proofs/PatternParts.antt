@@ -1,21 +1,20 @@
 -- Patterns are read, one part after the other.
 use Rattle.std.proofs.Common.{◌≡◌, ℕ, ◌<◌, Bool, false, List, [], ◌∷◌, ◌++◌, refl, ap, sym, subst, ◌∙◌, arith}
 use Rattle.abstract_syntax.specs.Expressions.{PatternTree, PatternTrees, MapletPatterns, concatenation_pattern, no_patterns, one_pattern, no_maplet_patterns, one_maplet_pattern}
-use Rattle.grammar_trees.specs.Pulls.{closed}
-use Rattle.grammar_trees.specs.TypeSpelling.{single}
+use Rattle.grammar_words.specs.Pulls.{closed}
 use Rattle.grammar_trees.specs.Spelling.{pattern_spelling, joined_patterns, further_joined}
 use Rattle.grammar_trees.specs.Binding.{AreTwoPatterns, IsSinglePattern, PatternsBeginAt, IsPattern, AreSinglePatterns}
 use Rattle.grammar_trees.specs.Lists.{then_patterns, and_pattern, only_pattern}
 use Rattle.grammar_trees.specs.Frames.{Frame, State, concatenated, wants_pattern, has_pattern}
-use Rattle.grammar_trees.specs.Machine.{in_mode, between, joins, follow_single, follow_pattern_word, TypeReader, step, run}
-use Rattle.grammar_words.specs.Tokens.{Token, whole, plain}
+use Rattle.grammar_trees.specs.Machine.{in_mode, joins, follow_single, follow_pattern_word, TypeReader, step, run}
+use Rattle.grammar_words.specs.Tokens.{Token, plain}
 use Rattle.grammar_words.specs.Written.{Written, word}
 use Rattle.vdm_kinds.specs.declared.place.Place.{Place}
 use Rattle.grammar_words.specs.declared.word.Word.{Word}
 use Rattle.grammar_words.specs.declared.word.Word.TheVariants as word_is
 use Rattle.vdm_kinds.specs.declared.sign.Sign.TheVariants as sign_is
 use Rattle.grammar_trees.proofs.Ends.{word_below, token_below, Ends}
-use Rattle.grammar_trees.proofs.Leading.{at_any, Begins-split, part, Begins, Leads}
+use Rattle.grammar_trees.proofs.Leading.{at_any, Begins-split, Begins, Leads}
 use Rattle.grammar_trees.proofs.Assoc.{patterns-assoc}
 
 -- no `^` comes next
@@ -70,6 +69,7 @@ part-run types n ws fs after p w t g o c j r tokens rest h k =
     ends : (middle : List Token) → Begins middle (word w ∷ ws) rest → Ends middle closed
     ends [] q = absurd q
     ends (u ∷ us) q = record { below = subst (λ (v : Token). token_below v closed) (sym q.0.1) c }
+
     ends_unjoined : (middle : List Token) → Begins middle (word w ∷ ws) rest → Unjoined middle
     ends_unjoined [] q = absurd q
     ends_unjoined (u ∷ us) q = record { unjoined = subst (λ (v : Token). first_unjoined (v ∷ us)) (sym q.0.1) j }
@@ -107,6 +107,7 @@ joined-run types (one_pattern next ps) done p place fs t s g ts ss o tokens rest
     ends : (middle : List Token) → Begins middle (further_joined (one_pattern next ps)) rest → Ends middle closed
     ends [] q = absurd q
     ends (v ∷ vs) q = record { below = subst (λ (x : Token). token_below x closed) (sym q.0.1) caret_below }
+
     by : (middle : List Token) → Begins middle (further_joined (one_pattern next ps)) rest → ((vs : List Token) → Begins vs (pattern_spelling next ++ further_joined ps) rest → run types vs (in_mode wants_pattern (concatenated (and_pattern done p) place ∷ fs)) ≡ run types rest (in_mode (has_pattern (concatenation_pattern (then_patterns (and_pattern done p) (one_pattern next ps)) place)) fs)) → run types middle (in_mode (has_pattern p) (concatenated done place ∷ fs)) ≡ run types rest (in_mode (has_pattern (concatenation_pattern (then_patterns done (one_pattern p (one_pattern next ps))) place)) fs)
     by [] q r = absurd q
     by (v ∷ vs) q r =
@@ -124,6 +125,7 @@ concatenation-run types (one_pattern p (one_pattern next ps)) place t two e ss f
     ends : (middle : List Token) → Begins middle (further_joined (one_pattern next ps)) rest → Ends middle closed
     ends [] q = absurd q
     ends (v ∷ vs) q = record { below = subst (λ (x : Token). token_below x closed) (sym q.0.1) caret_below }
+
     by : (middle : List Token) → Begins middle (further_joined (one_pattern next ps)) rest → run types middle (in_mode (has_pattern p) fs) ≡ run types rest (in_mode (has_pattern (concatenation_pattern (one_pattern p (one_pattern next ps)) place)) fs)
     by [] q = absurd q
     by (v ∷ vs) q =

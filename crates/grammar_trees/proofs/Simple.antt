@@ -1,14 +1,14 @@
 -- Names, literals, words, operators and forms of a few parts are read.
 use Rattle.std.proofs.Common.{◌≡◌, ℕ, ℤ, true, false, List, [], ◌∷◌, ◌++◌, Option, Some, None, refl, ap, sym, subst, append_assoc}
 use Rattle.abstract_syntax.specs.Expressions.{ExprTree, literal, named, qualified, old_value, self_object, current_time, undefined, result_value, bracketed, prefixed, joined, set_range, empty_map, make_token, is_of_named, is_of_basic, is_of_class, is_of_base_class, same_class, same_base_class, history, subsequence, select, select_of_class, select_part}
-use Rattle.grammar_trees.specs.Pulls.{right_pull, closed, IsPrefix, prefix_word}
-use Rattle.grammar_trees.specs.TypeSpelling.{literal_token, class_and_name, type_name_spelling, alone_at, IsTypeNameAt}
+use Rattle.grammar_words.specs.Pulls.{right_pull, closed, IsPrefix, prefix_word}
+use Rattle.type_reading.specs.TypeSpelling.{literal_token, class_and_name, type_name_spelling, alone_at, IsTypeNameAt}
 use Rattle.grammar_trees.specs.Spelling.{names_spelling}
 use Rattle.grammar_trees.specs.Binding.{reach, AreSomeNames}
 use Rattle.grammar_trees.specs.Frames.{Frame, TypeNameFor, State, operand_of, right_of, made, asked, made_pattern, type_after, counter_name, wants, has, awaits}
-use Rattle.grammar_trees.specs.Machine.{in_mode, want_word, want, taken, named_of_class, enter_named, opens_named, awaited_word, TypeReader, step}
+use Rattle.grammar_trees.specs.Machine.{in_mode, want_word, want, named_of_class, enter_named, opens_named, awaited_word, TypeReader, step}
 use Rattle.grammar_words.specs.Tokens.{Token, identifier, is_named, plain}
-use Rattle.grammar_words.specs.Written.{Written, word, number}
+use Rattle.grammar_words.specs.Written.{Written, word}
 use Rattle.abstract_syntax.specs.Literals.{LiteralTree, whole_literal, character_literal, text_literal, quote_literal, boolean_literal, nil_literal}
 use Rattle.vdm_kinds.specs.declared.name.Name.{Name}
 use Rattle.vdm_kinds.specs.declared.place.Place.{Place}
@@ -78,20 +78,26 @@ want_prefix _ place fs h = absurd (cc)
 
 pub prefixed-taken : (types : TypeReader) (sign : Sign) (operand : ExprTree) (place : Place) → Taken types operand → Taken types (prefixed sign operand place)
 prefixed-taken types sign operand place t =
-    record { taken = λ m fs b p. at_token (plain (prefix_word sign) place) (want_prefix sign place fs b.0)
-      (last_operand operand (operand_of sign place) t b.1 (min-le_right (right_pull sign) (reach operand)) (min-le_left (right_pull sign) (reach operand))) }
+    record {
+      taken = λ m fs b p. at_token (plain (prefix_word sign) place) (want_prefix sign place fs b.0)
+          (last_operand operand (operand_of sign place) t b.1 (min-le_right (right_pull sign) (reach operand)) (min-le_left (right_pull sign) (reach operand)));
+    }
 
 pub joined-taken : (types : TypeReader) (left : ExprTree) (sign : Sign) (right : ExprTree) (place : Place) → Taken types left → Taken types right → Taken types (joined left sign right place)
 joined-taken types left sign right place t u =
-    record { taken = λ m fs b p. before_word m left (word_is.Operator sign) place t b.1 p b.2 b.3 (rw (b.0) refl)
-      (last_operand right (right_of left sign place) u b.4 (min-le_right (right_pull sign) (reach right)) (min-le_left (right_pull sign) (reach right))) }
+    record {
+      taken = λ m fs b p. before_word m left (word_is.Operator sign) place t b.1 p b.2 b.3 (rw (b.0) refl)
+          (last_operand right (right_of left sign place) u b.4 (min-le_right (right_pull sign) (reach right)) (min-le_left (right_pull sign) (reach right)));
+    }
 
 pub set_range-taken : (types : TypeReader) (first last : ExprTree) (place : Place) → Taken types first → Taken types last → Taken types (set_range first last place)
 set_range-taken types first last place t u =
-    record { taken = λ m fs b p. at_token (plain word_is.OpenCurly place) refl
-      (part first word_is.Comma t b.0 below_one small (λ spot. refl)
-      (at_any word_is.Dots (λ spot. refl) (at_any word_is.Comma (λ spot. refl)
-      (part last word_is.CloseCurly u b.1 below_one small (λ spot. refl) nothing_more)))) }
+    record {
+      taken = λ m fs b p. at_token (plain word_is.OpenCurly place) refl
+          (part first word_is.Comma t b.0 below_one small (λ spot. refl)
+          (at_any word_is.Dots (λ spot. refl) (at_any word_is.Comma (λ spot. refl)
+          (part last word_is.CloseCurly u b.1 below_one small (λ spot. refl) nothing_more))));
+    }
 
 pub current_time-taken : (types : TypeReader) (place : Place) → Taken types (current_time place)
 current_time-taken types place = record { taken = λ m fs b p. at_token (plain word_is.Time place) refl nothing_more }
@@ -118,23 +124,31 @@ is_of_basic-taken types basic inner place t =
 
 pub is_of_class-taken : (types : TypeReader) (class : Name) (class_place : Place) (inner : ExprTree) (place : Place) → Taken types inner → Taken types (is_of_class class class_place inner place)
 is_of_class-taken types class class_place inner place t =
-    record { taken = λ m fs b p. at_token (plain word_is.IsOfClass place) refl (at_any word_is.OpenRound (λ spot. refl) (at_token (identifier class class_place) refl
-      (at_any word_is.Comma (λ spot. refl) (part inner word_is.CloseRound t b below_one small (λ spot. refl) nothing_more)))) }
+    record {
+      taken = λ m fs b p. at_token (plain word_is.IsOfClass place) refl (at_any word_is.OpenRound (λ spot. refl) (at_token (identifier class class_place) refl
+          (at_any word_is.Comma (λ spot. refl) (part inner word_is.CloseRound t b below_one small (λ spot. refl) nothing_more))));
+    }
 
 pub is_of_base_class-taken : (types : TypeReader) (class : Name) (class_place : Place) (inner : ExprTree) (place : Place) → Taken types inner → Taken types (is_of_base_class class class_place inner place)
 is_of_base_class-taken types class class_place inner place t =
-    record { taken = λ m fs b p. at_token (plain word_is.IsOfBaseClass place) refl (at_any word_is.OpenRound (λ spot. refl) (at_token (identifier class class_place) refl
-      (at_any word_is.Comma (λ spot. refl) (part inner word_is.CloseRound t b below_one small (λ spot. refl) nothing_more)))) }
+    record {
+      taken = λ m fs b p. at_token (plain word_is.IsOfBaseClass place) refl (at_any word_is.OpenRound (λ spot. refl) (at_token (identifier class class_place) refl
+          (at_any word_is.Comma (λ spot. refl) (part inner word_is.CloseRound t b below_one small (λ spot. refl) nothing_more))));
+    }
 
 pub same_class-taken : (types : TypeReader) (left right : ExprTree) (place : Place) → Taken types left → Taken types right → Taken types (same_class left right place)
 same_class-taken types left right place t u =
-    record { taken = λ m fs b p. at_token (plain word_is.SameClass place) refl (at_any word_is.OpenRound (λ spot. refl)
-      (part left word_is.Comma t b.0 below_one small (λ spot. refl) (part right word_is.CloseRound u b.1 below_one small (λ spot. refl) nothing_more))) }
+    record {
+      taken = λ m fs b p. at_token (plain word_is.SameClass place) refl (at_any word_is.OpenRound (λ spot. refl)
+          (part left word_is.Comma t b.0 below_one small (λ spot. refl) (part right word_is.CloseRound u b.1 below_one small (λ spot. refl) nothing_more)));
+    }
 
 pub same_base_class-taken : (types : TypeReader) (left right : ExprTree) (place : Place) → Taken types left → Taken types right → Taken types (same_base_class left right place)
 same_base_class-taken types left right place t u =
-    record { taken = λ m fs b p. at_token (plain word_is.SameBaseClass place) refl (at_any word_is.OpenRound (λ spot. refl)
-      (part left word_is.Comma t b.0 below_one small (λ spot. refl) (part right word_is.CloseRound u b.1 below_one small (λ spot. refl) nothing_more))) }
+    record {
+      taken = λ m fs b p. at_token (plain word_is.SameBaseClass place) refl (at_any word_is.OpenRound (λ spot. refl)
+          (part left word_is.Comma t b.0 below_one small (λ spot. refl) (part right word_is.CloseRound u b.1 below_one small (λ spot. refl) nothing_more)));
+    }
 
 -- ---- names of types
 
@@ -155,8 +169,10 @@ type_name-leads types n token for t place fs s after ws e h r = named-leads type
 
 pub is_of_named-taken : (types : TypeReader) (type_name : TypeName) (inner : ExprTree) (place : Place) → Taken types inner → Taken types (is_of_named type_name inner place)
 is_of_named-taken types type_name inner place t =
-    record { taken = λ m fs b p. type_name-leads types closed is_named asked type_name place fs _ _ _ (λ first. refl) b.0
-      (part inner word_is.CloseRound t b.1 below_one small (λ spot. refl) nothing_more) }
+    record {
+      taken = λ m fs b p. type_name-leads types closed is_named asked type_name place fs _ _ _ (λ first. refl) b.0
+          (part inner word_is.CloseRound t b.1 below_one small (λ spot. refl) nothing_more);
+    }
 
 -- ---- postfixes
 
@@ -166,8 +182,10 @@ select-taken types target name name_place place t =
 
 pub select_of_class-taken : (types : TypeReader) (target : ExprTree) (class : Name) (class_place : Place) (name : Name) (name_place place : Place) → Taken types target → Taken types (select_of_class target class class_place name name_place place)
 select_of_class-taken types target class class_place name name_place place t =
-    record { taken = λ m fs b p. before_word m target word_is.Dot place t b.0 p b.1 b.2 refl (at_token (identifier class class_place) refl
-      (at_any word_is.Backquote (λ spot. refl) (at_token (identifier name name_place) refl nothing_more))) }
+    record {
+      taken = λ m fs b p. before_word m target word_is.Dot place t b.0 p b.1 b.2 refl (at_token (identifier class class_place) refl
+          (at_any word_is.Backquote (λ spot. refl) (at_token (identifier name name_place) refl nothing_more)));
+    }
 
 pub select_part-taken : (types : TypeReader) (target : ExprTree) (number : ℤ) (place : Place) → Taken types target → Taken types (select_part target number place)
 select_part-taken types target n place t =
@@ -175,10 +193,12 @@ select_part-taken types target n place t =
 
 pub subsequence-taken : (types : TypeReader) (target first last : ExprTree) (place : Place) → Taken types target → Taken types first → Taken types last → Taken types (subsequence target first last place)
 subsequence-taken types target first last place t u v =
-    record { taken = λ m fs b p. before_word m target word_is.OpenRound place t b.0 p b.1 b.2 refl
-      (part first word_is.Comma u b.3 below_one small (λ spot. refl)
-      (at_any word_is.Dots (λ spot. refl) (at_any word_is.Comma (λ spot. refl)
-      (part last word_is.CloseRound v b.4 below_one small (λ spot. refl) nothing_more)))) }
+    record {
+      taken = λ m fs b p. before_word m target word_is.OpenRound place t b.0 p b.1 b.2 refl
+          (part first word_is.Comma u b.3 below_one small (λ spot. refl)
+          (at_any word_is.Dots (λ spot. refl) (at_any word_is.Comma (λ spot. refl)
+          (part last word_is.CloseRound v b.4 below_one small (λ spot. refl) nothing_more))));
+    }
 
 -- ---- counters
 

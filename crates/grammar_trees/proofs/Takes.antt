@@ -1,12 +1,12 @@
 -- Each tree of the grammar is read off its tokens.
 use Rattle.std.proofs.Common.{◌≡◌, List, [], ◌∷◌, refl, arith}
 use Rattle.abstract_syntax.specs.Expressions.{ExprTree, ExprTrees, MaybeExpr, MapletTrees, FieldValueTrees, DefinedTrees, BranchTrees, CaseTrees, BindTree, BindTrees, PatternTree, PatternTrees, MapletPatterns, literal, named, qualified, old_value, self_object, current_time, undefined, result_value, bracketed, prefixed, joined, set_enumeration, set_range, set_comprehension, empty_map, map_enumeration, map_comprehension, sequence_enumeration, sequence_comprehension, make_tuple, make_token, make_record, modify_record, is_of_type, is_of_named, is_of_basic, is_of_class, is_of_base_class, same_class, same_base_class, create, history, apply, subsequence, select, select_of_class, select_part, let_in, let_be, def_in, if_else, cases_of, for_all, exists_some, exists_one, iota_of, no_exprs, one_expr, left_out, given_expr, no_maplets, one_maplet, no_field_values, one_field_value, no_defined, one_defined, no_branches, one_branch, no_cases, one_case, bind_in, no_binds, one_bind, any_value, bound, literal_pattern, equal_to, set_pattern, sequence_pattern, map_pattern, empty_map_pattern, tuple_pattern, record_pattern, concatenation_pattern, no_patterns, one_pattern, no_maplet_patterns, one_maplet_pattern}
-use Rattle.grammar_trees.specs.Pulls.{far_pull}
+use Rattle.grammar_words.specs.Pulls.{far_pull}
 use Rattle.grammar_trees.specs.Spelling.{spelling, pattern_spelling}
 use Rattle.grammar_trees.specs.Frames.{wants, wants_pattern, an_expr, a_pattern}
 use Rattle.grammar_trees.specs.Machine.{in_mode, TypeReader, run}
 use Rattle.grammar_trees.specs.Trees.{IsTree, IsPatternOf}
-use Rattle.grammar_words.specs.Tokens.{Token, whole}
+use Rattle.grammar_words.specs.Tokens.{Token}
 use Rattle.grammar_words.specs.Written.{Written, AreTokens}
 use Rattle.grammar_trees.proofs.Ends.{reach-positive}
 use Rattle.grammar_trees.proofs.Leading.{Begins, Taken}

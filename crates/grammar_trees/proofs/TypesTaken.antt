@@ -1,10 +1,10 @@
 -- The tokens of a type are taken up to the word behind it.
 use Rattle.std.proofs.Common.{◌≡◌, ℕ, List, [], ◌∷◌, ◌++◌, Option, Some, None, refl, ap, sym, subst, ◌∙◌, append_assoc, append-nil}
 use Rattle.abstract_syntax.specs.Expressions.{ExprTree, is_of_type}
-use Rattle.grammar_trees.specs.Pulls.{closed}
-use Rattle.grammar_trees.specs.TypeSpelling.{class_and_name, type_spelling, types_spelling, further_types, IsType, union}
-use Rattle.grammar_trees.specs.Frames.{Frame, State, bracket, test_type, type_bracket, has, typing}
-use Rattle.grammar_trees.specs.Machine.{in_mode, taken, between, TypeReader, step, run}
+use Rattle.grammar_words.specs.Pulls.{closed}
+use Rattle.type_reading.specs.TypeSpelling.{class_and_name, type_spelling, types_spelling, further_types, IsType, union}
+use Rattle.grammar_trees.specs.Frames.{Frame, State, test_type, type_bracket, has, typing}
+use Rattle.grammar_trees.specs.Machine.{in_mode, between, TypeReader, step, run}
 use Rattle.grammar_words.specs.Tokens.{Token, identifier, quote, plain}
 use Rattle.grammar_words.specs.Written.{Written, at, word, IsToken, AreTokens, at_word}
 use Rattle.abstract_syntax.specs.Types.{TypeTree, TypeTrees, basic_type, quote_type, set_type, seq_type, seq1_type, map_type, inmap_type, optional_type, bracketed_type, named_type, product_type, union_type, no_types, one_type}
@@ -37,11 +37,13 @@ AreTokens-append [] (v ∷ vs) b w h k = absurd h
 AreTokens-append (t ∷ ts) [] b w h k = absurd h
 
 collect_then : (types : TypeReader) (a b : List Written) → Collects types a → Collects types b → Collects types (a ++ b)
-collect_then types a b p q = record { collects = λ ts fs tokens rest h.
-    let c = Begins-split tokens a b rest h in
-    let x = p.collects ts fs tokens c.0 c.1 in
-    let y = q.collects (ts ++ x.own) fs c.0 rest c.2 in
-    record { own = x.own ++ y.own; spelled = AreTokens-append x.own a y.own b x.spelled y.spelled; same = x.same ∙ y.same ∙ ap (λ (all : List Token). run types rest (in_mode (typing all) fs)) (append_assoc ts x.own y.own) } }
+collect_then types a b p q = record {
+  collects = λ ts fs tokens rest h.
+      let c = Begins-split tokens a b rest h in
+      let x = p.collects ts fs tokens c.0 c.1 in
+      let y = q.collects (ts ++ x.own) fs c.0 rest c.2 in
+      record { own = x.own ++ y.own; spelled = AreTokens-append x.own a y.own b x.spelled y.spelled; same = x.same ∙ y.same ∙ ap (λ (all : List Token). run types rest (in_mode (typing all) fs)) (append_assoc ts x.own y.own) };
+}
 
 -- a token that is no bracket and no `=`
 abbrev IsPlain : TypeReader → Token → Type 0
@@ -80,7 +82,7 @@ bracket-collects types opening inner w o p q ts fs (t ∷ tokens) rest h =
       own = t ∷ (x.own ++ y.0 ∷ []);
       spelled = (h.0, AreTokens-append x.own inner (y.0 ∷ []) (word w ∷ []) x.spelled (y.1, tt));
       same = ap (λ (s : State). run types tokens s) ((subst (λ (u : Token). IsOpening types u) (sym h.0) o) ts fs) ∙ x.same ∙ y.2
-        ∙ ap (λ (all : List Token). run types rest (in_mode (typing all) fs)) (append_assoc (ts ++ t ∷ []) x.own (y.0 ∷ []) ∙ append_assoc ts (t ∷ []) (x.own ++ y.0 ∷ []));
+          ∙ ap (λ (all : List Token). run types rest (in_mode (typing all) fs)) (append_assoc (ts ++ t ∷ []) x.own (y.0 ∷ []) ∙ append_assoc ts (t ∷ []) (x.own ++ y.0 ∷ []));
     }
 
 class_and_name-collects : (types : TypeReader) (class : Option Name) (name : Name) (name_place place : Place) → Collects types (class_and_name identifier class name name_place place)
@@ -144,6 +146,8 @@ type-ends types n w ws tree fs middle after reader g s r = record { leads = end-
 
 pub is_of_type-taken : (types : TypeReader) → ReadsTypes types → (inner : ExprTree) (declared : TypeTree) (place : Place) → Taken types inner → Taken types (is_of_type inner declared place)
 is_of_type-taken types reader inner declared place t =
-    record { taken = λ m fs b p. at_token (plain word_is.IsType place) refl (at_any word_is.OpenRound (λ spot. refl)
-      (part inner word_is.Comma t b.0 below_one small (λ spot. refl)
-      (type-ends types closed word_is.CloseRound [] declared (test_type inner place ∷ fs) (in_mode (has (is_of_type inner declared place)) fs) _ reader b.1 (λ own spot e. rw e refl) nothing_more))) }
+    record {
+      taken = λ m fs b p. at_token (plain word_is.IsType place) refl (at_any word_is.OpenRound (λ spot. refl)
+          (part inner word_is.Comma t b.0 below_one small (λ spot. refl)
+          (type-ends types closed word_is.CloseRound [] declared (test_type inner place ∷ fs) (in_mode (has (is_of_type inner declared place)) fs) _ reader b.1 (λ own spot e. rw e refl) nothing_more)));
+    }

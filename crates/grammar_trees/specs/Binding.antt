@@ -6,8 +6,8 @@ use Rattle.vdm_kinds.specs.declared.place.Place.{Place}
 use Rattle.abstract_syntax.specs.Types.{TypeTree}
 use Rattle.abstract_syntax.specs.Expressions.{ExprTree, ExprTrees, MaybeExpr, MapletTrees, FieldValueTrees, DefinedTrees, BranchTrees, CaseTrees, BindTree, BindTrees, PatternTree, PatternTrees, MapletPatterns, bracketed, prefixed, joined, set_enumeration, set_range, set_comprehension, map_enumeration, map_comprehension, sequence_enumeration, sequence_comprehension, make_tuple, make_token, make_record, modify_record, is_of_type, is_of_named, is_of_basic, is_of_class, is_of_base_class, same_class, same_base_class, create, history, apply, subsequence, select, select_of_class, select_part, let_in, let_be, def_in, if_else, cases_of, for_all, exists_some, exists_one, iota_of, no_exprs, one_expr, left_out, given_expr, no_maplets, one_maplet, no_field_values, one_field_value, no_defined, one_defined, no_branches, one_branch, no_cases, one_case, bind_in, no_binds, one_bind, equal_to, set_pattern, sequence_pattern, map_pattern, tuple_pattern, record_pattern, concatenation_pattern, no_patterns, one_pattern, no_maplet_patterns, one_maplet_pattern}
 use Rattle.abstract_syntax.specs.Expressions.{pattern_place}
-use Rattle.grammar_trees.specs.Pulls.{IsPrefix, IsInfix, left_pull, right_pull, far_pull, postfix_pull, closed}
-use Rattle.grammar_trees.specs.TypeSpelling.{IsTypeNameAt, IsType, union}
+use Rattle.grammar_words.specs.Pulls.{IsPrefix, IsInfix, left_pull, right_pull, far_pull, postfix_pull, closed}
+use Rattle.type_reading.specs.TypeSpelling.{IsTypeNameAt, IsType, union}
 
 -- an operator that pulls at least this would take into the tree's right end what stands behind it, and not the tree
 abbrev pub reach : ExprTree → ℕ

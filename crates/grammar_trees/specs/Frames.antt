@@ -1,6 +1,6 @@
 -- What is open where tokens are read from left to right: a device of the proof that tokens are at most one tree. A frame is what
 -- has been read of a tree whose next part is being read.
-use Rattle.std.specs.Prelude.{ℕ, List, Option}
+use Rattle.std.specs.Prelude.{List, Option}
 use Rattle.vdm_kinds.specs.declared.basic_type.BasicType.{BasicType}
 use Rattle.vdm_kinds.specs.declared.counter.Counter.{Counter}
 use Rattle.vdm_kinds.specs.declared.name.Name.{Name}

@@ -1,5 +1,3 @@
-pub mod Pulls
-pub mod TypeSpelling
 pub mod Spelling
 pub mod Binding
 pub mod Trees

@@ -14,7 +14,7 @@ use Rattle.abstract_syntax.specs.Expressions.{pattern_place}
 use Rattle.grammar_words.specs.declared.word.Word.{Word}
 use Rattle.grammar_words.specs.declared.word.Word.TheVariants as word_is
 use Rattle.grammar_words.specs.Tokens.{Token, word_of, identifier, quote, whole, character, text, make_named, is_named, plain}
-use Rattle.grammar_trees.specs.Pulls.{left_pull, right_pull, far_pull, postfix_pull, is_prefix, is_infix}
+use Rattle.grammar_words.specs.Pulls.{left_pull, right_pull, far_pull, postfix_pull, is_prefix, is_infix}
 use Rattle.grammar_trees.specs.Lists.{and_expr, and_maplet, and_field_value, and_defined, and_branch, and_case, and_bind, and_pattern, and_maplet_pattern, only_pattern}
 use Rattle.grammar_trees.specs.Frames.{Enclosed, Listed, Ranged, Compared, BindsFor, Conditioned, Body, PatternsFor, Frame, TypeNameFor, Header, Mode, State, Built, bracket, token_of, named_test, basic_test, class_test, base_class_test, set_of, sequence_of, tuple_of, record_of, new_of, applied_to, in_set, part_of_sequence, classes, base_classes, set_each, map_each, all_of, some_of, one_of, the_one, such_one, set_such, map_such, sequence_such, all_body, some_body, one_body, the_body, let_body, such_body, def_body, else_body, set_like, sequence_like, tuple_like, record_like, operand_of, right_of, body, enclosed, matched, items, tuple_start, range_end, map_key, map_value, condition, bind_set, sequence_set, left_class, right_class, tested, modified, field_value, let_value, let_such, def_value, if_test, if_then, elseif_test, elseif_then, subject, case_value, others_value, bind_patterns, sequence_bound, let_start, let_next, def_pattern, case_patterns, pattern_items, tuple_pattern_start, pattern_key, pattern_value, concatenated, test_type, let_type, type_bracket, made, asked, made_pattern, opens, comma_then, st_then, arrow_then, opens_pattern, type_after, type_rest, qualified_rest, member_of, member_rest, part_of, new_name, counter_opens, counter_name, counter_next, class_opens, class_name, base_class_opens, base_class_name, field_name, field_arrow, empty_map_end, empty_pattern_end, wants, has, wants_pattern, has_pattern, awaits, typing, refused, nothing, an_expr, a_pattern}
 

@@ -1,5 +1,5 @@
 -- The tokens that patterns, binds and expressions are written with.
-use Rattle.std.specs.Prelude.{ℤ, List, [], ◌∷◌, Option, Some, None}
+use Rattle.std.specs.Prelude.{List, [], ◌∷◌, Option, Some, None}
 use Rattle.vdm_kinds.specs.declared.name_at.NameAt.{NameAt}
 use Rattle.vdm_kinds.specs.declared.sign.Sign.TheVariants.{Concatenation, Equal, InSet, Minus}
 use Rattle.abstract_syntax.specs.Types.{TypeTree}
@@ -8,8 +8,8 @@ use Rattle.grammar_words.specs.declared.word.Word.{Word}
 use Rattle.grammar_words.specs.declared.word.Word.TheVariants as word_is
 use Rattle.grammar_words.specs.Tokens.{identifier, make_named, is_named}
 use Rattle.grammar_words.specs.Written.{Written, at, word, number, ◌⌢◌, at_word}
-use Rattle.grammar_trees.specs.Pulls.{prefix_word}
-use Rattle.grammar_trees.specs.TypeSpelling.{literal_token, type_name_spelling, type_spelling}
+use Rattle.grammar_words.specs.Pulls.{prefix_word}
+use Rattle.type_reading.specs.TypeSpelling.{literal_token, type_name_spelling, type_spelling}
 
 abbrev pub further_names : List NameAt → List Written
 further_names [] = []

@@ -3,7 +3,7 @@ use Rattle.std.specs.Prelude.{List}
 use Rattle.abstract_syntax.specs.Expressions.{ExprTree, PatternTree}
 use Rattle.grammar_words.specs.Tokens.{Token}
 use Rattle.grammar_words.specs.Written.{AreTokens}
-use Rattle.grammar_trees.specs.Pulls.{far_pull}
+use Rattle.grammar_words.specs.Pulls.{far_pull}
 use Rattle.grammar_trees.specs.Spelling.{spelling, pattern_spelling}
 use Rattle.grammar_trees.specs.Binding.{Binds, IsPattern}
 

@@ -67,7 +67,7 @@ literal_token (boolean_literal false) place = plain False place
 literal_token nil_literal place = plain Nil place
 
 -- a name of a type whose first name is written as a token of this kind: alone, or with the type's own name behind the class's
-abbrev class_and_name : (Name → Place → Token) → Option Name → Name → Place → Place → List Written
+abbrev pub class_and_name : (Name → Place → Token) → Option Name → Name → Place → Place → List Written
 class_and_name token None name name_place place = at (token name place) ∷ []
 class_and_name token (Some class) name name_place place = at (token class place) ∷ word Backquote ∷ at (identifier name name_place) ∷ []
 
@@ -75,7 +75,7 @@ abbrev pub type_name_spelling : (Name → Place → Token) → TypeName → Plac
 type_name_spelling token t place = class_and_name token t.class t.name t.name_place place
 
 -- a name of a type that stands alone is where its node is
-abbrev alone_at : Option Name → Place → Place → Type 0
+abbrev pub alone_at : Option Name → Place → Place → Type 0
 alone_at None name_place place = name_place ≡ place
 alone_at (Some class) name_place place = Unit {0}
 
