@@ -10,3 +10,7 @@ pub mod BindsTaken
 pub mod FarForms
 pub mod Takes
 pub mod Trees
+pub mod SoundLists
+pub mod SoundFrames
+pub mod SoundBasics
+pub mod SoundTaken
