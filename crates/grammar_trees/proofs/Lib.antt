@@ -14,3 +14,4 @@ pub mod SoundLists
 pub mod SoundFrames
 pub mod SoundBasics
 pub mod SoundTaken
+pub mod SoundPatterns
