@@ -15,3 +15,4 @@ pub mod SoundFrames
 pub mod SoundBasics
 pub mod SoundTaken
 pub mod SoundPatterns
+pub mod SoundSteps

@@ -44,7 +44,7 @@ enclose-closed (basic_test basic) e place = omega arith
 enclose-closed (class_test c at_c) e place = omega arith
 enclose-closed (base_class_test c at_c) e place = omega arith
 
-all_closed : closed ≤ closed
+pub all_closed : closed ≤ closed
 all_closed = omega arith
 
 -- ---- lists of expressions
