@@ -16,3 +16,4 @@ pub mod SoundBasics
 pub mod SoundTaken
 pub mod SoundPatterns
 pub mod SoundSteps
+pub mod SoundFollow
