@@ -9,7 +9,6 @@ pub mod PatternKinds
 pub mod BindsTaken
 pub mod FarForms
 pub mod Takes
-pub mod Trees
 pub mod SoundLists
 pub mod SoundFrames
 pub mod SoundBasics
@@ -17,3 +16,5 @@ pub mod SoundTaken
 pub mod SoundPatterns
 pub mod SoundSteps
 pub mod SoundFollow
+pub mod SoundRun
+pub mod Trees

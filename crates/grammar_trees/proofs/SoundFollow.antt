@@ -1,8 +1,7 @@
 -- What a token makes of what it follows.
 use Rattle.std.proofs.Common.{◌≡◌, ℕ, ℤ, ◌<◌, ◌≤◌, Bool, true, false, nat_lt, if◌then◌else◌, List, [], ◌∷◌, ◌++◌, refl, ap, sym, subst, ◌∙◌, arith, append_assoc, append-nil}
-use Rattle.abstract_syntax.specs.Expressions.{ExprTree, literal, named, qualified, old_value, empty_map, history, select, select_of_class, select_part, no_exprs, empty_map_pattern, no_patterns}
+use Rattle.abstract_syntax.specs.Expressions.{ExprTree, named, qualified, old_value, empty_map, history, select, select_of_class, select_part, no_exprs, empty_map_pattern, no_patterns}
 use Rattle.grammar_words.specs.Pulls.{left_pull, far_pull, postfix_pull, closed, is_infix, IsInfix}
-use Rattle.type_reading.specs.TypeSpelling.{single}
 use Rattle.grammar_trees.specs.Spelling.{names_spelling, spelling}
 use Rattle.grammar_trees.specs.Binding.{reach, AreSomeNames, Binds}
 use Rattle.grammar_trees.specs.Frames.{Body, Frame, TypeNameFor, Header, State, named_test, class_test, base_class_test, record_of, new_of, applied_to, all_body, some_body, one_body, the_body, let_body, such_body, def_body, else_body, record_like, operand_of, right_of, body, enclosed, items, field_value, pattern_items, made, asked, made_pattern, opens, comma_then, st_then, arrow_then, opens_pattern, type_after, type_rest, qualified_rest, member_of, member_rest, part_of, new_name, counter_opens, counter_name, counter_next, class_opens, class_name, base_class_opens, base_class_name, field_name, field_arrow, empty_map_end, empty_pattern_end, has, awaits, nothing, an_expr}
@@ -116,8 +115,11 @@ awaited_name-sound (member_rest e class class_place place) name spot fs tokens g
 awaited_name-sound (new_name place) name spot fs tokens g h =
     (to_awaits (opens (items (new_of name spot) no_exprs place)) (λ ts a. ((tt, tt), before_that fs _ _ (at (identifier name spot)) word_is.OpenRound _ ts refl refl a))).becomes g tokens h
 awaited_name-sound (counter_name counter names place) name spot fs tokens g h =
-    (to_awaits (counter_next counter (names ++ name_at name spot ∷ []) place) (λ ts a. (are-some-names names (name_at name spot), one_further (stack_took fs) _ _ (at (identifier name spot)) _ ts
-      (ap (λ (ws : List Written). at_word (word_is.Counter counter) place ∷ word word_is.OpenRound ∷ ws) (names-spelled names (name_at name spot))) refl a))).becomes g tokens h
+    (to_awaits (counter_next counter (names ++ name_at name spot ∷ []) place) (λ ts a. (
+      are-some-names names (name_at name spot),
+      one_further (stack_took fs) _ _ (at (identifier name spot)) _ ts
+          (ap (λ (ws : List Written). at_word (word_is.Counter counter) place ∷ word word_is.OpenRound ∷ ws) (names-spelled names (name_at name spot))) refl a,
+    ))).becomes g tokens h
 awaited_name-sound (class_name place) name spot fs tokens g h =
     (to_awaits (comma_then (enclosed (class_test name spot) place)) (λ ts a. (tt, before_that fs _ _ (at (identifier name spot)) word_is.Comma _ ts refl refl a))).becomes g tokens h
 awaited_name-sound (base_class_name place) name spot fs tokens g h =

@@ -1,6 +1,6 @@
 -- Lists that were read so far: what they are written with.
 use Rattle.std.proofs.Common.{◌≡◌, List, [], ◌∷◌, ◌++◌, Option, refl, ap, ◌∙◌, append_assoc}
-use Rattle.abstract_syntax.specs.Expressions.{ExprTree, ExprTrees, MapletTrees, FieldValueTrees, DefinedTrees, BranchTrees, CaseTrees, BindTree, BindTrees, PatternTree, PatternTrees, MapletPatterns, joined, no_exprs, one_expr, no_maplets, one_maplet, no_field_values, one_field_value, no_defined, one_defined, no_branches, one_branch, no_cases, one_case, no_binds, one_bind, no_patterns, one_pattern, no_maplet_patterns, one_maplet_pattern}
+use Rattle.abstract_syntax.specs.Expressions.{ExprTree, ExprTrees, MapletTrees, FieldValueTrees, DefinedTrees, BranchTrees, CaseTrees, BindTree, BindTrees, PatternTree, PatternTrees, MapletPatterns, no_exprs, one_expr, no_maplets, one_maplet, no_field_values, one_field_value, no_defined, one_defined, no_branches, one_branch, no_cases, one_case, no_binds, one_bind, no_patterns, one_pattern, no_maplet_patterns, one_maplet_pattern}
 use Rattle.grammar_words.specs.Pulls.{far_pull}
 use Rattle.grammar_trees.specs.Spelling.{further_names, names_spelling, declared_spelling, spelling, exprs_spelling, further_exprs, maplets_spelling, further_maplets, field_values_spelling, further_field_values, definitions_spelling, further_definitions, branches_spelling, cases_spelling, further_cases, bind_spelling, binds_spelling, further_binds, pattern_spelling, patterns_spelling, further_patterns, joined_patterns, further_joined, maplet_patterns_spelling, further_maplet_patterns}
 use Rattle.grammar_trees.specs.Binding.{AreSomePatterns, IsDeclared, IsSinglePattern, Binds, AreExprs, AreMaplets, AreFieldValues, AreDefinitions, AreBranches, AreCases, IsBind, AreBinds, IsPattern, ArePatterns, AreSinglePatterns, AreMapletPatterns}

@@ -8,7 +8,7 @@ use Rattle.grammar_trees.specs.Frames.{BindsFor, PatternsFor, Frame, State, set_
 use Rattle.grammar_trees.specs.Machine.{in_mode, stop_of, whole_patterns, closes_patterns, behind_first_pattern, behind_pattern, behind_pattern_value, further_bound, behind_bound, behind_defined, behind_let, behind_case_pattern, taken_pattern, pattern_taken_by, joins_sign, joins, follow_single, follow_joined, follow_pattern, end_pattern, Stop, comma, close_curly, maps_to, colon, arrow, in_set_stop, equal_stop}
 use Rattle.grammar_trees.specs.Trees.{IsPatternOf}
 use Rattle.grammar_words.specs.Tokens.{Token, plain}
-use Rattle.grammar_words.specs.Written.{Written, at, word, IsToken, AreTokens, at_word}
+use Rattle.grammar_words.specs.Written.{Written, word, IsToken, AreTokens, at_word}
 use Rattle.vdm_kinds.specs.declared.place.Place.{Place}
 use Rattle.vdm_kinds.specs.declared.sign.Sign.{Sign}
 use Rattle.grammar_words.specs.declared.word.Word.{Word}
@@ -167,8 +167,8 @@ begin-at (one_pattern q ps) p place h b = b
 follow_joined-sound : (b : Bool) (w : Word) (place at_first : Place) (ps : PatternTrees) (p : PatternTree) (fs : List Frame) (tokens : List Token) → joins w ≡ b → StackFits (concatenated ps at_first ∷ fs) → IsSinglePattern p → IsPattern p → AreTokens tokens (stack_took (concatenated ps at_first ∷ fs) ++ pattern_spelling p) → Sound (follow_joined b w (and_pattern ps p) at_first fs) (tokens ++ plain w place ∷ [])
 follow_joined-sound true w place at_first ps p fs tokens e g s b h =
     (to_wants_pattern (concatenated (and_pattern ps p) at_first) (word (word_is.Operator sign_is.Concatenation)) (caret w place e)
-      (are-some ps p, begin-at ps p at_first g.0.0 g.0.1, joined-are ps p g.0.2 (s, b)) (simp (joined-took ps p, append_assoc) refl)).becomes g.1 tokens
-      (subst (λ (ws : List Written). AreTokens tokens ws) (append_assoc (stack_took fs) (took_joined ps) (pattern_spelling p)) h)
+    (are-some ps p, begin-at ps p at_first g.0.0 g.0.1, joined-are ps p g.0.2 (s, b)) (simp (joined-took ps p, append_assoc) refl)).becomes g.1 tokens
+    (subst (λ (ws : List Written). AreTokens tokens ws) (append_assoc (stack_took fs) (took_joined ps) (pattern_spelling p)) h)
 follow_joined-sound false w place at_first ps p fs tokens e g s b h =
     by-frames fs (concatenation_pattern (and_pattern ps p) at_first) (stop_of w) (plain w place) tokens (stop-token w place) g.1
     (are-two ps p g.0.0, begin-at ps p at_first g.0.0 g.0.1, joined-are ps p g.0.2 (s, b))

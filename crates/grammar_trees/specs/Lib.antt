@@ -4,3 +4,4 @@ pub mod Trees
 pub mod Lists
 pub mod Frames
 pub mod Machine
+pub mod Reading
