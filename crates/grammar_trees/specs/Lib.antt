@@ -5,3 +5,4 @@ pub mod Lists
 pub mod Frames
 pub mod Machine
 pub mod Reading
+pub mod Worked
