@@ -660,6 +660,16 @@ after_counted word_is.Comma counter names place fs = in_mode (awaits (counter_na
 after_counted word_is.CloseRound counter names place fs = in_mode (has (history counter names place)) fs
 after_counted _ counter names place fs = no_tree
 
+-- what a header does with a word that ends it or goes on with single tokens
+abbrev pub awaited_sign : Header → Word → List Frame → State
+awaited_sign (counter_opens counter place) w fs = await_open w (in_mode (awaits (counter_name counter [] place)) fs)
+awaited_sign (counter_next counter names place) w fs = after_counted w counter names place fs
+awaited_sign (class_opens place) w fs = await_open w (in_mode (awaits (class_name place)) fs)
+awaited_sign (base_class_opens place) w fs = await_open w (in_mode (awaits (base_class_name place)) fs)
+awaited_sign (empty_map_end place) w fs = await_curly w (in_mode (has (empty_map place)) fs)
+awaited_sign (empty_pattern_end place) w fs = await_curly w (in_mode (has_pattern (empty_map_pattern place)) fs)
+awaited_sign _ w fs = no_tree
+
 -- what a header does with a word
 abbrev pub awaited_word : Header → Word → List Frame → State
 awaited_word (opens f) w fs = await_open w (in_mode wants (f ∷ fs))
@@ -668,15 +678,9 @@ awaited_word (st_then f) w fs = await_st w (in_mode wants (f ∷ fs))
 awaited_word (arrow_then f) w fs = await_arrow w (in_mode wants (f ∷ fs))
 awaited_word (opens_pattern f) w fs = await_open w (in_mode wants_pattern (f ∷ fs))
 awaited_word (type_after for name place) w fs = after_type_name w for name place fs
-awaited_word (counter_opens counter place) w fs = await_open w (in_mode (awaits (counter_name counter [] place)) fs)
-awaited_word (counter_next counter names place) w fs = after_counted w counter names place fs
-awaited_word (class_opens place) w fs = await_open w (in_mode (awaits (class_name place)) fs)
-awaited_word (base_class_opens place) w fs = await_open w (in_mode (awaits (base_class_name place)) fs)
 awaited_word (field_arrow target fields name name_place place) w fs =
     await_maps_to w (in_mode wants (field_value target fields name name_place place ∷ fs))
-awaited_word (empty_map_end place) w fs = await_curly w (in_mode (has (empty_map place)) fs)
-awaited_word (empty_pattern_end place) w fs = await_curly w (in_mode (has_pattern (empty_map_pattern place)) fs)
-awaited_word _ w fs = no_tree
+awaited_word h w fs = awaited_sign h w fs
 
 abbrev pub name_at : Name → Place → NameAt
 name_at name place = record { name = name; place = place }
