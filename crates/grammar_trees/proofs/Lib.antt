@@ -9,4 +9,12 @@ pub mod PatternKinds
 pub mod BindsTaken
 pub mod FarForms
 pub mod Takes
+pub mod SoundLists
+pub mod SoundFrames
+pub mod SoundBasics
+pub mod SoundTaken
+pub mod SoundPatterns
+pub mod SoundSteps
+pub mod SoundFollow
+pub mod SoundRun
 pub mod Trees

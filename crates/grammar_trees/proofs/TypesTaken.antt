@@ -30,7 +30,7 @@ pub record Collected (types : TypeReader) (ws : List Written) (ts : List Token) 
 pub record Collects (types : TypeReader) (ws : List Written) : Type 0 where
   pub collects : (ts : List Token) (fs : List Frame) (tokens rest : List Token) → Begins tokens ws rest → Collected types ws ts fs tokens rest
 
-AreTokens-append : (a : List Token) (v : List Written) (b : List Token) (w : List Written) → AreTokens a v → AreTokens b w → AreTokens (a ++ b) (v ++ w)
+pub AreTokens-append : (a : List Token) (v : List Written) (b : List Token) (w : List Written) → AreTokens a v → AreTokens b w → AreTokens (a ++ b) (v ++ w)
 AreTokens-append [] [] b w h k = k
 AreTokens-append (t ∷ ts) (v ∷ vs) b w h k = (h.0, AreTokens-append ts vs b w h.1 k)
 AreTokens-append [] (v ∷ vs) b w h k = absurd h

@@ -4,3 +4,5 @@ pub mod Trees
 pub mod Lists
 pub mod Frames
 pub mod Machine
+pub mod Reading
+pub mod Worked

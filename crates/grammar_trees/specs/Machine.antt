@@ -71,6 +71,33 @@ in_items go [] = no_tree
 in_items go (items listed es place ∷ fs) = go listed es place fs
 in_items go (f ∷ fs) = no_tree
 
+-- forms that go on to the right as far as they can, and `cases`
+abbrev pub want_far : Word → Place → List Frame → State
+want_far word_is.Let place fs = in_mode wants_pattern (let_start place ∷ fs)
+want_far word_is.Def place fs = in_mode wants_pattern (def_pattern place ∷ fs)
+want_far word_is.If place fs = in_mode wants (if_test place ∷ fs)
+want_far word_is.Cases place fs = in_mode wants (subject place ∷ fs)
+want_far word_is.Forall place fs = in_mode wants_pattern (bind_patterns all_of no_binds no_patterns place ∷ fs)
+want_far word_is.Exists place fs = in_mode wants_pattern (bind_patterns some_of no_binds no_patterns place ∷ fs)
+want_far word_is.ExistsOne place fs = in_mode wants_pattern (bind_patterns one_of no_binds no_patterns place ∷ fs)
+want_far word_is.Iota place fs = in_mode wants_pattern (bind_patterns the_one no_binds no_patterns place ∷ fs)
+want_far _ place fs = no_tree
+
+-- forms that begin with a word and a bracket
+abbrev pub want_form : Word → Place → List Frame → State
+want_form word_is.MakeTuple place fs = in_mode (awaits (opens (tuple_start place))) fs
+want_form word_is.MakeToken place fs = in_mode (awaits (opens (enclosed token_of place))) fs
+want_form word_is.IsType place fs = in_mode (awaits (opens (tested place))) fs
+want_form (word_is.IsBasic basic) place fs = in_mode (awaits (opens (enclosed (basic_test basic) place))) fs
+want_form word_is.Modify place fs = in_mode (awaits (opens (modified place))) fs
+want_form word_is.New place fs = in_mode (awaits (new_name place)) fs
+want_form word_is.IsOfClass place fs = in_mode (awaits (class_opens place)) fs
+want_form word_is.IsOfBaseClass place fs = in_mode (awaits (base_class_opens place)) fs
+want_form word_is.SameClass place fs = in_mode (awaits (opens (left_class classes place))) fs
+want_form word_is.SameBaseClass place fs = in_mode (awaits (opens (left_class base_classes place))) fs
+want_form (word_is.Counter counter) place fs = in_mode (awaits (counter_opens counter place)) fs
+want_form w place fs = want_far w place fs
+
 abbrev pub want_word : Word → Place → List Frame → State
 want_word word_is.True place fs = in_mode (has (literal (boolean_literal true) place)) fs
 want_word word_is.False place fs = in_mode (has (literal (boolean_literal false) place)) fs
@@ -88,26 +115,7 @@ want_word word_is.CloseSquare place fs = in_items empty_square fs
 want_word word_is.CloseRound place fs = in_items empty_round fs
 want_word word_is.MapsTo place fs = in_items empty_maps_to fs
 want_word word_is.Dots place fs = in_items dots_behind fs
-want_word word_is.MakeTuple place fs = in_mode (awaits (opens (tuple_start place))) fs
-want_word word_is.MakeToken place fs = in_mode (awaits (opens (enclosed token_of place))) fs
-want_word word_is.IsType place fs = in_mode (awaits (opens (tested place))) fs
-want_word (word_is.IsBasic basic) place fs = in_mode (awaits (opens (enclosed (basic_test basic) place))) fs
-want_word word_is.Modify place fs = in_mode (awaits (opens (modified place))) fs
-want_word word_is.New place fs = in_mode (awaits (new_name place)) fs
-want_word word_is.IsOfClass place fs = in_mode (awaits (class_opens place)) fs
-want_word word_is.IsOfBaseClass place fs = in_mode (awaits (base_class_opens place)) fs
-want_word word_is.SameClass place fs = in_mode (awaits (opens (left_class classes place))) fs
-want_word word_is.SameBaseClass place fs = in_mode (awaits (opens (left_class base_classes place))) fs
-want_word (word_is.Counter counter) place fs = in_mode (awaits (counter_opens counter place)) fs
-want_word word_is.Let place fs = in_mode wants_pattern (let_start place ∷ fs)
-want_word word_is.Def place fs = in_mode wants_pattern (def_pattern place ∷ fs)
-want_word word_is.If place fs = in_mode wants (if_test place ∷ fs)
-want_word word_is.Cases place fs = in_mode wants (subject place ∷ fs)
-want_word word_is.Forall place fs = in_mode wants_pattern (bind_patterns all_of no_binds no_patterns place ∷ fs)
-want_word word_is.Exists place fs = in_mode wants_pattern (bind_patterns some_of no_binds no_patterns place ∷ fs)
-want_word word_is.ExistsOne place fs = in_mode wants_pattern (bind_patterns one_of no_binds no_patterns place ∷ fs)
-want_word word_is.Iota place fs = in_mode wants_pattern (bind_patterns the_one no_binds no_patterns place ∷ fs)
-want_word _ place fs = no_tree
+want_word w place fs = want_form w place fs
 
 abbrev pub want : Token → List Frame → State
 want (identifier name place) fs = in_mode (has (named name place)) fs
@@ -421,6 +429,31 @@ behind_case e cases place comma fs = in_mode wants_pattern (case_patterns e case
 behind_case e cases place end_stop fs = in_mode (has (cases_of e cases left_out place)) fs
 behind_case e cases place _ fs = no_tree
 
+-- what a frame of a choice does with an expression that a word ends
+abbrev pub taken_choice : Frame → ExprTree → Stop → List Frame → State
+taken_choice (if_test place) e stop fs = at_then stop (in_mode wants (if_then e place ∷ fs))
+taken_choice (if_then test place) e stop fs = behind_branch test e no_branches place stop fs
+taken_choice (elseif_test test value elseifs place) e stop fs = at_then stop (in_mode wants (elseif_then test value elseifs e place ∷ fs))
+taken_choice (elseif_then test value elseifs next place) e stop fs = behind_branch test value (and_branch elseifs next e) place stop fs
+taken_choice (subject place) e stop fs = at_colon stop (in_mode wants_pattern (case_patterns e no_cases no_patterns place ∷ fs))
+taken_choice (case_value e cases patterns place) value stop fs = behind_case e (and_case cases patterns value) place stop fs
+taken_choice (others_value e cases place) value stop fs = at_end stop (in_mode (has (cases_of e cases (given_expr value) place)) fs)
+taken_choice _ e stop fs = no_tree
+
+-- what a frame of a test, of fields or of definitions does with it
+abbrev pub taken_part : Frame → ExprTree → Stop → List Frame → State
+taken_part (left_class compared place) e stop fs = at_comma stop (in_mode wants (right_class compared e place ∷ fs))
+taken_part (right_class compared left place) e stop fs = at_round stop (in_mode (has (compare compared left e place)) fs)
+taken_part (tested place) e stop fs = at_comma stop (in_mode (typing []) (test_type e place ∷ fs))
+taken_part (modified place) e stop fs = at_comma stop (in_mode (awaits (field_name e no_field_values place)) fs)
+taken_part (field_value target fields name name_place place) e stop fs =
+    behind_field target (and_field_value fields name name_place e) place stop fs
+taken_part (let_value definitions pattern declared place) e stop fs =
+    behind_definition (and_defined definitions pattern declared e) place stop fs
+taken_part (let_such bind place) e stop fs = at_in stop (in_mode wants (body (such_body bind (given_expr e)) place ∷ fs))
+taken_part (def_value pattern place) e stop fs = at_in stop (in_mode wants (body (def_body pattern e) place ∷ fs))
+taken_part f e stop fs = taken_choice f e stop fs
+
 -- what a frame does with an expression that a word ends
 abbrev pub taken : Frame → ExprTree → Stop → List Frame → State
 taken (enclosed for place) e stop fs = at_round stop (in_mode (has (enclose for e place)) fs)
@@ -433,24 +466,7 @@ taken (map_value ms key place) e stop fs = behind_maplet ms key e place stop fs
 taken (condition such place) e stop fs = end_condition such (given_expr e) place stop fs
 taken (bind_set for binds patterns place) e stop fs = behind_set for binds (bind_in patterns e) place stop fs
 taken (sequence_set item pattern place) e stop fs = behind_sequence_set item pattern e place stop fs
-taken (left_class compared place) e stop fs = at_comma stop (in_mode wants (right_class compared e place ∷ fs))
-taken (right_class compared left place) e stop fs = at_round stop (in_mode (has (compare compared left e place)) fs)
-taken (tested place) e stop fs = at_comma stop (in_mode (typing []) (test_type e place ∷ fs))
-taken (modified place) e stop fs = at_comma stop (in_mode (awaits (field_name e no_field_values place)) fs)
-taken (field_value target fields name name_place place) e stop fs =
-    behind_field target (and_field_value fields name name_place e) place stop fs
-taken (let_value definitions pattern declared place) e stop fs =
-    behind_definition (and_defined definitions pattern declared e) place stop fs
-taken (let_such bind place) e stop fs = at_in stop (in_mode wants (body (such_body bind (given_expr e)) place ∷ fs))
-taken (def_value pattern place) e stop fs = at_in stop (in_mode wants (body (def_body pattern e) place ∷ fs))
-taken (if_test place) e stop fs = at_then stop (in_mode wants (if_then e place ∷ fs))
-taken (if_then test place) e stop fs = behind_branch test e no_branches place stop fs
-taken (elseif_test test value elseifs place) e stop fs = at_then stop (in_mode wants (elseif_then test value elseifs e place ∷ fs))
-taken (elseif_then test value elseifs next place) e stop fs = behind_branch test value (and_branch elseifs next e) place stop fs
-taken (subject place) e stop fs = at_colon stop (in_mode wants_pattern (case_patterns e no_cases no_patterns place ∷ fs))
-taken (case_value e cases patterns place) value stop fs = behind_case e (and_case cases patterns value) place stop fs
-taken (others_value e cases place) value stop fs = at_end stop (in_mode (has (cases_of e cases (given_expr value) place)) fs)
-taken _ e stop fs = no_tree
+taken f e stop fs = taken_part f e stop fs
 
 abbrev pub taken_by : List Frame → ExprTree → Stop → State
 taken_by [] e stop = no_tree
@@ -644,6 +660,16 @@ after_counted word_is.Comma counter names place fs = in_mode (awaits (counter_na
 after_counted word_is.CloseRound counter names place fs = in_mode (has (history counter names place)) fs
 after_counted _ counter names place fs = no_tree
 
+-- what a header does with a word that ends it or goes on with single tokens
+abbrev pub awaited_sign : Header → Word → List Frame → State
+awaited_sign (counter_opens counter place) w fs = await_open w (in_mode (awaits (counter_name counter [] place)) fs)
+awaited_sign (counter_next counter names place) w fs = after_counted w counter names place fs
+awaited_sign (class_opens place) w fs = await_open w (in_mode (awaits (class_name place)) fs)
+awaited_sign (base_class_opens place) w fs = await_open w (in_mode (awaits (base_class_name place)) fs)
+awaited_sign (empty_map_end place) w fs = await_curly w (in_mode (has (empty_map place)) fs)
+awaited_sign (empty_pattern_end place) w fs = await_curly w (in_mode (has_pattern (empty_map_pattern place)) fs)
+awaited_sign _ w fs = no_tree
+
 -- what a header does with a word
 abbrev pub awaited_word : Header → Word → List Frame → State
 awaited_word (opens f) w fs = await_open w (in_mode wants (f ∷ fs))
@@ -652,15 +678,9 @@ awaited_word (st_then f) w fs = await_st w (in_mode wants (f ∷ fs))
 awaited_word (arrow_then f) w fs = await_arrow w (in_mode wants (f ∷ fs))
 awaited_word (opens_pattern f) w fs = await_open w (in_mode wants_pattern (f ∷ fs))
 awaited_word (type_after for name place) w fs = after_type_name w for name place fs
-awaited_word (counter_opens counter place) w fs = await_open w (in_mode (awaits (counter_name counter [] place)) fs)
-awaited_word (counter_next counter names place) w fs = after_counted w counter names place fs
-awaited_word (class_opens place) w fs = await_open w (in_mode (awaits (class_name place)) fs)
-awaited_word (base_class_opens place) w fs = await_open w (in_mode (awaits (base_class_name place)) fs)
 awaited_word (field_arrow target fields name name_place place) w fs =
     await_maps_to w (in_mode wants (field_value target fields name name_place place ∷ fs))
-awaited_word (empty_map_end place) w fs = await_curly w (in_mode (has (empty_map place)) fs)
-awaited_word (empty_pattern_end place) w fs = await_curly w (in_mode (has_pattern (empty_map_pattern place)) fs)
-awaited_word _ w fs = no_tree
+awaited_word h w fs = awaited_sign h w fs
 
 abbrev pub name_at : Name → Place → NameAt
 name_at name place = record { name = name; place = place }

@@ -3,4 +3,6 @@
 
 mod laws;
 
-pub use laws::{one_pattern, one_tree};
+pub use laws::{
+    expressions_are_read, one_pattern, one_tree, patterns_are_read, worked_forms, worked_operators,
+};
