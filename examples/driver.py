@@ -156,7 +156,7 @@ def name(line, asked):
 
 
 def lexed(line, asked):
-    """lex PART TEXT, places PART TEXT"""
+    """lex PART TEXT, places PART TEXT, type PART TEXT"""
     part, _, text = asked.partition(" ")
     line.put(read(line, part, Reader.part), word_of(text))
 
@@ -404,7 +404,7 @@ REQUESTS = {
     **dict.fromkeys(["take", "refusal", "fault"], number),
     "names": names,
     "name": name,
-    **dict.fromkeys(["lex", "places"], lexed),
+    **dict.fromkeys(["lex", "places", "type"], lexed),
     **dict.fromkeys(["tokens", "spots", "token-names"], tokens),
     **dict.fromkeys(["spec", "accepts"], text),
     "main": main,

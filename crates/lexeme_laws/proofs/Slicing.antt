@@ -57,20 +57,29 @@ mark-encoded text =
     let sum = length-append (encode_utf8_all (take m text)) (encode_utf8_all (drop m text)) in
     omega (arith, all, whole, front, behind, both, sum)
 
+-- a text is its mark and its pieces put together
+whole-is : (part : Part) (text : List ℕ) (found : List Lexeme) (are : AreLexemesOf part text found) → text ≡ encode_utf8_all (take (mark_length (chars text)) (chars text)) ++ encode_utf8_all (together are.pieces)
+whole-is part text found are =
+    let m = mark_length (chars text) in
+    sym (encodes-chars text are.utf8)
+    ∙ ap encode_utf8_all (sym (take-append-drop m (chars text)))
+    ∙ encodes-append (take m (chars text)) (drop m (chars text))
+    ∙ ap (λ (t : List ℕ). encode_utf8_all (take m (chars text)) ++ encode_utf8_all t) are.is
+
+pub slices-at : (part : Part) (text : List ℕ) (found : List Lexeme) (are : AreLexemesOf part text found) → AreSlices text are.pieces found
+slices-at part text found are =
+    subst (AreSlices text are.pieces) (sym are.lexemes)
+    (slices-of text (encode_utf8_all (take (mark_length (chars text)) (chars text))) are.pieces (beginning part (chars text)) (whole-is part text found are) (mark-encoded (chars text)))
+
 pub put-together : (part : Part) (text : List ℕ) (found : List Lexeme) → AreLexemesOf part text found → IsPutTogether text found
 put-together part text found are =
     let m = mark_length (chars text) in
     let mark = encode_utf8_all (take m (chars text)) in
-    let whole : text ≡ mark ++ encode_utf8_all (together are.pieces) =
-    sym (encodes-chars text are.utf8)
-    ∙ ap encode_utf8_all (sym (take-append-drop m (chars text)))
-    ∙ encodes-append (take m (chars text)) (drop m (chars text))
-    ∙ ap (λ (t : List ℕ). mark ++ encode_utf8_all t) are.is in
-    let long = mark-encoded (chars text) in
-    let front : take (3 * m) text ≡ mark = ap (take (3 * m)) whole ∙ take_at mark (encode_utf8_all (together are.pieces)) (3 * m) long in
+    let whole = whole-is part text found are in
+    let front : take (3 * m) text ≡ mark = ap (take (3 * m)) whole ∙ take_at mark (encode_utf8_all (together are.pieces)) (3 * m) (mark-encoded (chars text)) in
     record {
       pieces = are.pieces;
       cut = are.cut;
       is = whole ∙ ap (λ (t : List ℕ). t ++ encode_utf8_all (together are.pieces)) (sym front);
-      slices = subst (AreSlices text are.pieces) (sym are.lexemes) (slices-of text mark are.pieces (beginning part (chars text)) whole long);
+      slices = slices-at part text found are;
     }

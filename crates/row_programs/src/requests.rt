@@ -60,7 +60,8 @@ fn answer_by(desk: &mut TreeDesk, line: &mut Line<'_>, word: &str) {
         || row_lists::answer(&mut desk.plain, line, word)
         || row_logs::answer(&mut desk.plain, line, word)
         || row_runs::answer(desk, line, word)
-        || row_machines::answer(desk, line, word);
+        || row_machines::answer(desk, line, word)
+        || row_grammar::answer(&mut desk.plain.names, line, word);
     if !is_answered {
         line.refuse();
     }

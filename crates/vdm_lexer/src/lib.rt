@@ -22,4 +22,5 @@ pub use laws::{
 };
 pub use lexeme::{LexKind, Lexeme};
 pub use lexer::lex;
+pub use numeral::digits_value;
 pub use written::{SIGNS, WORDS_FROM_M, WORDS_TO_L, WrittenKind};

@@ -1,0 +1,12 @@
+pub mod Turns
+pub mod Types
+pub mod Patterns
+pub mod Operands
+pub mod Brackets
+pub mod Binds
+pub mod Words
+pub mod Table
+pub mod Viable
+pub mod Depth
+pub mod Fronts
+pub mod WorkedFronts

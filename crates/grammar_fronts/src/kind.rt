@@ -1,0 +1,9 @@
+// What words are to be read as.
+
+/// What words are to be read as.
+#[derive(Clone, Copy, Debug, PartialEq, Eq)]
+pub enum Kind {
+    TypeExpr,
+    Pattern,
+    Expr,
+}

@@ -1,0 +1,8 @@
+pub mod Spelling
+pub mod Binding
+pub mod Trees
+pub mod Lists
+pub mod Frames
+pub mod Machine
+pub mod Reading
+pub mod Worked

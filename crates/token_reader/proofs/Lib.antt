@@ -1,0 +1,4 @@
+pub mod Decoding
+pub mod Naming
+pub mod Readable
+pub mod Reading
