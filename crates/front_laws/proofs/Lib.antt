@@ -1,0 +1,10 @@
+pub mod Passing
+pub mod Starts
+pub mod Types
+pub mod Claims
+pub mod Parts
+pub mod PatternsRead
+pub mod BindsRead
+pub mod Forms
+pub mod FarForms
+pub mod Whole
