@@ -8,3 +8,13 @@ pub mod BindsRead
 pub mod Forms
 pub mod FarForms
 pub mod Whole
+pub mod Fine
+pub mod Nests
+pub mod TypesDeep
+pub mod DeepClaims
+pub mod DeepParts
+pub mod DeepPatterns
+pub mod DeepBinds
+pub mod DeepForms
+pub mod DeepFar
+pub mod DeepTrees

@@ -1,5 +1,6 @@
 -- Where an expression, a pattern or a type may begin, and what is wanted behind it besides.
 use Rattle.std.proofs.Common.{◌≡◌, List, [], ◌∷◌, ◌++◌, Option, Some, None, refl, ap, sym, ◌∙◌, append_assoc, if◌then◌else◌}
+use Rattle.std.proofs.lemmas.List.{append-nil}
 use Rattle.grammar_words.specs.declared.word.Word.{Word}
 use Rattle.grammar_words.specs.declared.word.Word.TheVariants as word_is
 use Rattle.grammar_words.specs.Written.{Written}
@@ -45,6 +46,7 @@ use Rattle.front_laws.proofs.Passing.{written_word, Reads, tok}
 -- a word that begins something by a table begins it there too, with more behind it
 pub record Starts (table : Word → Option Turn) (next : Wanted) (more : List Wanted) : Type 0 where
   pub starts : (w : Word) (t : Turn) (behind : List Wanted) → table w ≡ Some t → after w (next ∷ behind) ≡ Some (wanted_by t ++ (more ++ behind))
+  pub turns : (w : Word) (t : Turn) → table w ≡ Some t → turn next w ≡ then_wanted (Some t) more
 
 with_other : (t : Turn) (more behind : List Wanted) (other : Met)
     → left_by (either (then_wanted (Some t) more) behind other) ≡ Some (wanted_by t ++ (more ++ behind))
@@ -55,6 +57,12 @@ with_other (joins left right parts rest) more behind other =
     ap (λ all. Some (all ++ behind)) (sym (append_assoc parts rest more)) ∙ ap Some (append_assoc (parts ++ rest) more behind)
 with_other (adds pull parts) more behind other = ap Some (append_assoc parts more behind)
 
+nothing_more : (t : Turn) → then_wanted (Some t) [] ≡ Some t
+nothing_more (goes_on parts) = ap (λ more. Some (goes_on more)) (append-nil parts)
+nothing_more (begins pull parts behind) = ap (λ more. Some (begins pull parts more)) (append-nil behind)
+nothing_more (joins left right parts behind) = ap (λ more. Some (joins left right parts more)) (append-nil behind)
+nothing_more (adds pull parts) = ap (λ more. Some (adds pull more)) (append-nil parts)
+
 -- where the table of what is wanted is that table with more behind it
 follows-table : (table : Word → Option Turn) (next : Wanted) (more : List Wanted)
     → ((w : Word) (t : Turn) → table w ≡ Some t → turn next w ≡ then_wanted (Some t) more) → Starts table next more
@@ -62,6 +70,7 @@ follows-table table next more same = record {
   starts = λ w t behind begun.
       let other = (if is_optional next then meets w behind else refuses (next ∷ behind)) in
       ap (λ found. left_by (either found behind other)) (same w t begun) ∙ with_other t more behind other;
+  turns = same;
 }
 
 -- a word that begins something in such a place
@@ -147,13 +156,22 @@ pub at_next_case : Starts pattern NextCase (BehindCase ∷ MoreCases ∷ [])
 at_next_case = follows-table pattern NextCase (BehindCase ∷ MoreCases ∷ []) (λ w t is. next_case-begins w t is ∙ ap (λ found. then_wanted found (BehindCase ∷ MoreCases ∷ [])) is)
 
 pub at_expression : Starts expression Expression []
-at_expression = record { starts = λ w t behind is. ap (λ found. left_by (either found behind (refuses (Expression ∷ behind)))) is }
+at_expression = record {
+  starts = λ w t behind is. ap (λ found. left_by (either found behind (refuses (Expression ∷ behind)))) is;
+  turns = λ w t is. is ∙ sym (nothing_more t);
+}
 
 pub at_pattern : Starts pattern Pattern []
-at_pattern = record { starts = λ w t behind is. ap (λ found. left_by (either found behind (refuses (Pattern ∷ behind)))) is }
+at_pattern = record {
+  starts = λ w t behind is. ap (λ found. left_by (either found behind (refuses (Pattern ∷ behind)))) is;
+  turns = λ w t is. is ∙ sym (nothing_more t);
+}
 
 pub at_single_type : Starts single_type SingleType []
-at_single_type = record { starts = λ w t behind is. ap (λ found. left_by (either found behind (refuses (SingleType ∷ behind)))) is }
+at_single_type = record {
+  starts = λ w t behind is. ap (λ found. left_by (either found behind (refuses (SingleType ∷ behind)))) is;
+  turns = λ w t is. is ∙ sym (nothing_more t);
+}
 
 pub at_whole_type : Starts single_type WholeType (BehindType ∷ [])
 at_whole_type = follows-table single_type WholeType (BehindType ∷ []) (λ w t is. ap (λ found. then_wanted found (BehindType ∷ [])) is)

@@ -136,7 +136,7 @@ word-of token (at kept) h = ap word_of h
 word-of token (word w) h = ap word_of h.1
 word-of token (number n) h = ap word_of h.1
 
-words-of : (tokens : List Token) (ws : List Written) → AreTokens tokens ws → map word_of tokens ≡ words_written ws
+pub words-of : (tokens : List Token) (ws : List Written) → AreTokens tokens ws → map word_of tokens ≡ words_written ws
 words-of [] [] h = refl
 words-of (t ∷ ts) (w ∷ ws) h = ap (λ x. x ∷ map word_of ts) (word-of t w h.0) ∙ ap (λ xs. written_word w ∷ xs) (words-of ts ws h.1)
 words-of [] (w ∷ ws) h = absurd h
