@@ -41,9 +41,16 @@ fn write_answer<R: Clock, O: Write>(
 
 fn answer<R: Clock>(rt: &R, line: &mut Line<'_>) {
     match line.word() {
-        "time" => row_values::answer_time(rt, line),
+        "time" => answer_time(rt, line),
         "main" => row_calls::answer(line),
         word => answer_over_desk(line, word),
+    }
+}
+
+fn answer_time<R: Clock>(rt: &R, line: &mut Line<'_>) {
+    match line.word() {
+        "grammar" => row_grammar_times::answer_time(rt, line),
+        word => row_values::answer_time(rt, line, word),
     }
 }
 

@@ -14,7 +14,7 @@ mod values;
 
 use row_desk::Desk;
 use row_words::Line;
-pub use times::answer_time;
+pub use times::{answer_time, nanoseconds, say_time};
 
 /// Answers a request; tells whether the word is one of this library's.
 pub fn answer(desk: &mut Desk, line: &mut Line<'_>, word: &str) -> bool {

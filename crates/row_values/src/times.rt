@@ -17,8 +17,8 @@ use vdm_values::{Node, Value, ValueList};
 const STEP: u64 = 7919;
 
 /// Says what a call made, and how many nanoseconds it took.
-pub fn answer_time<R: Clock>(rt: &R, line: &mut Line<'_>) {
-    match line.word() {
+pub fn answer_time<R: Clock>(rt: &R, line: &mut Line<'_>, word: &str) {
+    match word {
         "set" => time_set(rt, line),
         "lex" => time_lex(rt, line),
         "text" => time_text(rt, line),
@@ -39,8 +39,8 @@ fn time_set<R: Clock>(rt: &R, line: &mut Line<'_>) {
     }
 }
 
-// The nanoseconds since then.
-pub(crate) fn nanoseconds<R: Clock>(rt: &R, line: &mut Line<'_>, began: Option<Instant>) -> u64 {
+/// The nanoseconds since then. A clock that cannot be read makes the line unreadable.
+pub fn nanoseconds<R: Clock>(rt: &R, line: &mut Line<'_>, began: Option<Instant>) -> u64 {
     let taken = began.and_then(|it| it.elapsed(rt).ok());
     match taken {
         Some(taken) => u64::try_from(taken.as_nanos()).unwrap_or(u64::MAX),
@@ -51,7 +51,8 @@ pub(crate) fn nanoseconds<R: Clock>(rt: &R, line: &mut Line<'_>, began: Option<I
     }
 }
 
-pub(crate) fn say_time(line: &mut Line<'_>, count: usize, taken: u64) {
+/// Says how much was made, and the nanoseconds.
+pub fn say_time(line: &mut Line<'_>, count: usize, taken: u64) {
     line.say_count(count);
     line.say(" ");
     line.say_number(taken);
