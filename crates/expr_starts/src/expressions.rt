@@ -71,7 +71,10 @@ fn want_word(
         Word::OpenRound => opened(Frame::Enclosed(Enclosed::Bracket, place), frames),
         Word::OpenCurly => opened(Frame::Items(Listed::SetOf, Vec::new(alloc), place), frames),
         Word::OpenSquare => {
-            opened(Frame::Items(Listed::SequenceOf, Vec::new(alloc), place), frames)
+            opened(
+                Frame::Items(Listed::SequenceOf, Vec::new(alloc), place),
+                frames,
+            )
         }
         Word::CloseCurly => Ok(close_curly(frames)),
         Word::CloseSquare => Ok(close_square(frames)),

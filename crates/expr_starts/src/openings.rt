@@ -6,7 +6,7 @@ ghost use Rattle.grammar_trees.specs.Machine.{in_mode};
 ghost use Rattle.tree_frames.specs.declared.frame.Frame.{Frame as FrameView};
 ghost use Rattle.tree_frames.specs.Views.{frame_view, header_view, stack_view, state_view};
 
-use tree_frames::{pushed, Frame, Header, Mode};
+use tree_frames::{Frame, Header, Mode, pushed};
 use vdm_kinds::OutOfMemory;
 
 /// A frame is opened, and an expression is wanted.
