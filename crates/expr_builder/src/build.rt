@@ -28,3 +28,18 @@ pub fn build_expr(alloc: Global, tokens: Vec<Token>) -> Result<Option<Expr>, Out
     }
     end_expr(alloc, mode, &mut frames)
 }
+
+/// The pattern that the tokens are, from the first to the last; none where they are no pattern.
+pub fn build_pattern(alloc: Global, tokens: Vec<Token>) -> Result<Option<Pattern>, OutOfMemory>
+    ensures { IfOk result (λ built. option_map pattern_view built ≡ pattern_of (token_views tokens.items)) }
+{
+    let mut frames = Vec::new(alloc);
+    let mut mode = Mode::WantsPattern;
+    for token in tokens {
+        let Some(next) = step(alloc, mode, &mut frames, token)? else {
+            return Ok(None);
+        };
+        mode = next;
+    }
+    end_pattern(mode, &mut frames)
+}

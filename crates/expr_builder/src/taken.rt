@@ -5,14 +5,15 @@ ghost use Rattle.expr_tree.specs.View.{view_of};
 ghost use Rattle.grammar_trees.specs.Machine.{taken, taken_part, taken_choice, taken_by};
 ghost use Rattle.tree_frames.specs.Views.{frame_view, stop_view, stack_view, state_view};
 
-use crate::choices::{behind_branch, behind_case};
-use crate::collections::{behind_item, behind_maplet, end_condition, end_range};
-use crate::definitions::{behind_definition, behind_field, behind_sequence_set, behind_set};
-use crate::nodes::{compare, enclose};
-use expr_starts::{awaiting, opened, opened_pattern};
-use expr_tree::{Bind, Expr, Pattern};
+use expr_parts::{
+    behind_branch, behind_case, behind_definition, behind_field, behind_item, behind_maplet,
+    behind_sequence_set, behind_set, def_value, elseif_test, enclosed, end_condition, end_range,
+    if_test, left_class, let_such, map_key, matched, modified, others_value, right_class, subject,
+    tested, tuple_started, with_definition, with_elseif, with_field, with_value,
+};
+use expr_tree::{Bind, Expr};
 use std::alloc::Global;
-use tree_frames::{popped, Body, Conditioned, Frame, Header, Listed, Mode, Stop};
+use tree_frames::{popped, Frame, Mode, Stop};
 use vdm_kinds::OutOfMemory;
 
 /// What the innermost frame makes of an expression.

@@ -5,10 +5,10 @@ ghost use Rattle.expr_tree.specs.View.{view_of, branch_trees, branch_view, case_
 ghost use Rattle.grammar_trees.specs.Machine.{behind_branch, behind_case};
 ghost use Rattle.tree_frames.specs.Views.{stop_view, stack_view, state_view};
 
-use expr_starts::{opened, opened_pattern};
 use expr_tree::{Branch, Case, Expr};
 use std::alloc::Global;
 use tree_frames::{Body, Frame, Mode, Stop};
+use tree_nodes::{opened, opened_pattern};
 use vdm_kinds::{OutOfMemory, Place};
 
 /// Behind a value of an `if`, whose `elseif`s so far are given.

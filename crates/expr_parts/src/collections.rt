@@ -3,19 +3,18 @@
 ghost use Rattle.std.specs.Prelude.{◌≡◌, List, IfOk, map};
 ghost use Rattle.expr_tree.specs.View.{view_of, views_of, expr_trees, maplet_trees, maplet_view, maybe_view};
 ghost use Rattle.grammar_trees.specs.Lists.{and_expr};
-ghost use Rattle.grammar_trees.specs.Machine.{in_mode, closes_list, whole_list, behind_first, behind_item, end_range, behind_maplet, end_condition};
+ghost use Rattle.grammar_trees.specs.Machine.{in_mode, at_curly, at_square, at_round, closes_list, whole_list, behind_first, behind_item, end_range, behind_maplet, end_condition};
 ghost use Rattle.grammar_trees.specs.Frames.{has};
-ghost use Rattle.expr_starts.specs.Emptiness.{is_empty_exprs};
+ghost use Rattle.tree_nodes.specs.Emptiness.{is_empty_exprs, is_empty_maplets};
 ghost use Rattle.tree_frames.specs.declared.frame.Frame.{Frame as FrameView};
 ghost use Rattle.tree_frames.specs.Views.{listed_view, ranged_view, conditioned_view, stop_view, stack_view, state_view};
 
-use crate::nodes::whole_list;
-use expr_starts::{binding, is_empty, opened, opened_pattern};
 use expr_tree::{Expr, Maplet};
 use std::alloc::Global;
 use tree_frames::{
-    with_expr, with_maplet, BindsFor, Conditioned, Frame, Listed, Mode, Ranged, Stop,
+    BindsFor, Conditioned, Frame, Listed, Mode, Ranged, Stop, with_expr, with_maplet,
 };
+use tree_nodes::{binding, is_empty, opened, opened_pattern, whole_list};
 use vdm_kinds::{OutOfMemory, Place};
 
 /// Behind an item of a list.
@@ -76,21 +75,40 @@ fn behind_first(
 fn closed_list(listed: Listed, items: Vec<Expr>, place: Place, stop: Stop) -> Option<Mode>
     ensures { (frames : List FrameView) → state_view result frames ≡ closes_list (listed_view listed) (stop_view stop) (in_mode (has (whole_list (listed_view listed) (expr_trees (views_of items.items)) place)) (stack_view frames)) }
 {
-    if closes(&listed, stop) {
-        Some(Mode::Has(whole_list(listed, items, place)))
-    } else {
-        None
+    match listed {
+        Listed::SetOf => at_curly(whole_list(Listed::SetOf, items, place), stop),
+        Listed::SequenceOf => at_square(whole_list(Listed::SequenceOf, items, place), stop),
+        listed => at_round(whole_list(listed, items, place), stop),
     }
 }
 
-/// Whether a word closes a list.
-fn closes(listed: &Listed, stop: Stop) -> bool
-    ensures { (s : State) → closes_list (listed_view listed.now) (stop_view stop) s ≡ (if result then s else no_tree) }
+/// The expression, where the word is `}`.
+fn at_curly(tree: Expr, stop: Stop) -> Option<Mode>
+    ensures { (frames : List FrameView) → state_view result frames ≡ at_curly (stop_view stop) (in_mode (has (view_of tree)) (stack_view frames)) }
 {
-    match listed {
-        Listed::SetOf => matches!(stop, Stop::CloseCurly),
-        Listed::SequenceOf => matches!(stop, Stop::CloseSquare),
-        _ => matches!(stop, Stop::CloseRound),
+    match stop {
+        Stop::CloseCurly => Some(Mode::Has(tree)),
+        _ => None,
+    }
+}
+
+/// The expression, where the word is `]`.
+fn at_square(tree: Expr, stop: Stop) -> Option<Mode>
+    ensures { (frames : List FrameView) → state_view result frames ≡ at_square (stop_view stop) (in_mode (has (view_of tree)) (stack_view frames)) }
+{
+    match stop {
+        Stop::CloseSquare => Some(Mode::Has(tree)),
+        _ => None,
+    }
+}
+
+/// The expression, where the word is `)`.
+fn at_round(tree: Expr, stop: Stop) -> Option<Mode>
+    ensures { (frames : List FrameView) → state_view result frames ≡ at_round (stop_view stop) (in_mode (has (view_of tree)) (stack_view frames)) }
+{
+    match stop {
+        Stop::CloseRound => Some(Mode::Has(tree)),
+        _ => None,
     }
 }
 
@@ -168,7 +186,9 @@ pub fn end_condition(
 {
     match such {
         Conditioned::SetSuch(element, binds) => match stop {
-            Stop::CloseCurly => Some(Mode::Has(Expr::set_comprehension(element, binds, given, place))),
+            Stop::CloseCurly => Some(Mode::Has(Expr::set_comprehension(
+                element, binds, given, place,
+            ))),
             _ => None,
         },
         Conditioned::MapSuch(key, value, binds) => match stop {

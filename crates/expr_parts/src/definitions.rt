@@ -1,19 +1,21 @@
 // Binds, fields and definitions, behind an expression.
 
-ghost use Rattle.std.specs.Prelude.{◌≡◌, List, IfOk, map};
+ghost use Rattle.std.specs.Prelude.{◌≡◌, ◌∷◌, List, IfOk, map};
 ghost use Rattle.expr_tree.specs.View.{view_of, pattern_view, bind_view, bind_trees, field_value_trees, field_value_view, defined_trees, defined_view};
-ghost use Rattle.grammar_trees.specs.Machine.{behind_set, behind_sequence_set, behind_field, behind_definition, behind_comprehension, behind_quantified, behind_one, behind_such};
+ghost use Rattle.abstract_syntax.specs.Expressions.{no_patterns};
+ghost use Rattle.grammar_trees.specs.Frames.{wants_pattern, bind_patterns, set_such, map_such, set_each, map_each, all_of, some_of, all_body, some_body};
+ghost use Rattle.grammar_trees.specs.Machine.{in_mode, behind_set, behind_sequence_set, behind_field, behind_definition, behind_comprehension, behind_quantified, behind_one, behind_such};
 ghost use Rattle.tree_frames.specs.declared.frame.Frame.{Frame as FrameView};
 ghost use Rattle.tree_frames.specs.Views.{binds_for_view, body_view, stop_view, stack_view, state_view};
 
 use crate::collections::end_condition;
-use expr_starts::{awaiting, opened, opened_pattern};
 use expr_tree::{Bind, Defined, Expr, FieldValue, Pattern};
 use std::alloc::Global;
-use tree_frames::{with_bind, BindsFor, Body, Conditioned, Frame, Header, Mode, Stop};
+use tree_frames::{BindsFor, Body, Conditioned, Frame, Header, Mode, Stop, with_bind};
+use tree_nodes::{awaiting, opened, opened_pattern};
 use vdm_kinds::{OutOfMemory, Place};
 
-/// Behind the set of a bind that may be one of several: a further bind, or what the binds are for.
+/// A further bind.
 fn next_bind(
     alloc: Global,
     purpose: BindsFor,
@@ -42,53 +44,102 @@ pub fn behind_set(
     ensures { IfOk result (λ next. state_view next frames.new.items ≡ behind_set (binds_for_view purpose) (bind_trees (map bind_view binds.items)) (bind_view bind) place (stop_view stop) (stack_view frames.old.items)) }
 {
     match purpose {
+        BindsFor::SetEach(element) => {
+            let binds = with_bind(binds, bind)?;
+            behind_set_binds(alloc, element, binds, place, stop, frames)
+        }
+        BindsFor::MapEach(key, value) => {
+            let binds = with_bind(binds, bind)?;
+            behind_map_binds(alloc, key, value, binds, place, stop, frames)
+        }
+        BindsFor::AllOf => {
+            let binds = with_bind(binds, bind)?;
+            behind_all_binds(alloc, binds, place, stop, frames)
+        }
+        BindsFor::SomeOf => {
+            let binds = with_bind(binds, bind)?;
+            behind_some_binds(alloc, binds, place, stop, frames)
+        }
         BindsFor::OneOf => behind_one(Body::One(Box::new(alloc, bind)?), place, stop, frames),
         BindsFor::TheOne => behind_one(Body::The(Box::new(alloc, bind)?), place, stop, frames),
         BindsFor::SuchOne => behind_such(Box::new(alloc, bind)?, place, stop, frames),
-        purpose => {
-            let binds = with_bind(binds, bind)?;
-            behind_binds(alloc, purpose, binds, place, stop, frames)
-        }
     }
 }
 
-/// Behind binds of which there may be several.
-fn behind_binds(
+/// Behind the binds of a comprehension of a set.
+fn behind_set_binds(
     alloc: Global,
-    purpose: BindsFor,
+    element: Box<Expr>,
     binds: Vec<Bind>,
     place: Place,
     stop: Stop,
     frames: &mut Vec<Frame>,
 ) -> Result<Option<Mode>, OutOfMemory>
-    ensures { IfOk result (λ next. state_view next frames.new.items ≡ behind_binds (binds_for_view purpose) (bind_trees (map bind_view binds.items)) place (stop_view stop) (stack_view frames.old.items)) }
+    ensures { IfOk result (λ next. state_view next frames.new.items ≡ behind_comprehension (set_such (view_of element.value) (bind_trees (map bind_view binds.items))) (set_each (view_of element.value)) (bind_trees (map bind_view binds.items)) place (stop_view stop) (stack_view frames.old.items)) }
 {
-    if let Stop::Comma = stop {
-        return next_bind(alloc, purpose, binds, place, frames);
-    }
-    match purpose {
-        BindsFor::SetEach(element) => such_each(Conditioned::SetSuch(element, binds), place, stop, frames),
-        BindsFor::MapEach(key, value) => {
-            such_each(Conditioned::MapSuch(key, value, binds), place, stop, frames)
-        }
-        BindsFor::AllOf => behind_one(Body::All(binds), place, stop, frames),
-        BindsFor::SomeOf => behind_one(Body::Some(binds), place, stop, frames),
-        _ => Ok(None),
+    match stop {
+        Stop::Comma => next_bind(alloc, BindsFor::SetEach(element), binds, place, frames),
+        Stop::Ampersand => opened(
+            Frame::Condition(Conditioned::SetSuch(element, binds), place),
+            frames,
+        ),
+        _ => Ok(end_condition(Conditioned::SetSuch(element, binds), None, place, stop)),
     }
 }
 
-/// Behind the binds of a comprehension: a condition, or the end.
-fn such_each(
-    such: Conditioned,
+/// Behind the binds of a comprehension of a map.
+fn behind_map_binds(
+    alloc: Global,
+    key: Box<Expr>,
+    value: Box<Expr>,
+    binds: Vec<Bind>,
     place: Place,
     stop: Stop,
     frames: &mut Vec<Frame>,
 ) -> Result<Option<Mode>, OutOfMemory>
-    ensures { IfOk result (λ next. state_view next frames.new.items ≡ such_each (conditioned_view such) place (stop_view stop) (stack_view frames.old.items)) }
+    ensures { IfOk result (λ next. state_view next frames.new.items ≡ behind_comprehension (map_such (view_of key.value) (view_of value.value) (bind_trees (map bind_view binds.items))) (map_each (view_of key.value) (view_of value.value)) (bind_trees (map bind_view binds.items)) place (stop_view stop) (stack_view frames.old.items)) }
 {
     match stop {
-        Stop::Ampersand => opened(Frame::Condition(such, place), frames),
-        _ => Ok(end_condition(such, None, place, stop)),
+        Stop::Comma => next_bind(alloc, BindsFor::MapEach(key, value), binds, place, frames),
+        Stop::Ampersand => opened(
+            Frame::Condition(Conditioned::MapSuch(key, value, binds), place),
+            frames,
+        ),
+        _ => Ok(end_condition(Conditioned::MapSuch(key, value, binds), None, place, stop)),
+    }
+}
+
+/// Behind the binds of a `forall`.
+fn behind_all_binds(
+    alloc: Global,
+    binds: Vec<Bind>,
+    place: Place,
+    stop: Stop,
+    frames: &mut Vec<Frame>,
+) -> Result<Option<Mode>, OutOfMemory>
+    ensures { IfOk result (λ next. state_view next frames.new.items ≡ behind_quantified (all_body (bind_trees (map bind_view binds.items))) all_of (bind_trees (map bind_view binds.items)) place (stop_view stop) (stack_view frames.old.items)) }
+{
+    match stop {
+        Stop::Comma => next_bind(alloc, BindsFor::AllOf, binds, place, frames),
+        Stop::Ampersand => opened(Frame::Body(Body::All(binds), place), frames),
+        _ => Ok(None),
+    }
+}
+
+/// Behind the binds of an `exists`.
+fn behind_some_binds(
+    alloc: Global,
+    binds: Vec<Bind>,
+    place: Place,
+    stop: Stop,
+    frames: &mut Vec<Frame>,
+) -> Result<Option<Mode>, OutOfMemory>
+    ensures { IfOk result (λ next. state_view next frames.new.items ≡ behind_quantified (some_body (bind_trees (map bind_view binds.items))) some_of (bind_trees (map bind_view binds.items)) place (stop_view stop) (stack_view frames.old.items)) }
+{
+    match stop {
+        Stop::Comma => next_bind(alloc, BindsFor::SomeOf, binds, place, frames),
+        Stop::Ampersand => opened(Frame::Body(Body::Some(binds), place), frames),
+        _ => Ok(None),
     }
 }
 
@@ -136,7 +187,11 @@ pub fn behind_sequence_set(
     ensures { IfOk result (λ next. state_view next frames.new.items ≡ behind_sequence_set (view_of item.value) (pattern_view pattern.value) (view_of set) place (stop_view stop) (stack_view frames.old.items)) }
 {
     let set = Box::new(alloc, set)?;
-    such_each(Conditioned::SequenceSuch(item, pattern, set), place, stop, frames)
+    let such = Conditioned::SequenceSuch(item, pattern, set);
+    match stop {
+        Stop::Ampersand => opened(Frame::Condition(such, place), frames),
+        _ => Ok(end_condition(such, None, place, stop)),
+    }
 }
 
 /// Behind the value of a field.

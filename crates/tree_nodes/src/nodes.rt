@@ -1,6 +1,7 @@
 // Trees that frames become.
 
 ghost use Rattle.std.specs.Prelude.{◌≡◌, IfOk};
+ghost use Rattle.abstract_syntax.specs.Expressions.{prefixed, joined};
 ghost use Rattle.expr_tree.specs.View.{view_of, views_of, expr_trees, pattern_view, pattern_views, pattern_trees};
 ghost use Rattle.grammar_trees.specs.Machine.{enclose, whole_list, whole_patterns, compare, with_body, completed};
 ghost use Rattle.tree_frames.specs.Views.{enclosed_view, listed_view, patterns_for_view, compared_view, body_view, frame_view};
@@ -8,7 +9,7 @@ ghost use Rattle.tree_frames.specs.Views.{enclosed_view, listed_view, patterns_f
 use expr_tree::{Expr, Pattern};
 use std::alloc::Global;
 use tree_frames::{Body, Compared, Enclosed, Frame, Listed, PatternsFor};
-use vdm_kinds::{OutOfMemory, Place};
+use vdm_kinds::{OutOfMemory, Place, Sign};
 
 /// An expression in round brackets.
 pub fn enclose(
@@ -98,18 +99,46 @@ pub fn completed(alloc: Global, frame: Frame, last: Expr) -> Result<Expr, OutOfM
     ensures { IfOk result (λ tree. view_of tree ≡ completed (frame_view frame) (view_of last)) }
 {
     match frame {
-        Frame::OperandOf(sign, place) => {
-            let operand = Box::new(alloc, last)?;
-            Ok(Expr::prefix(sign, operand, place))
-        }
-        Frame::RightOf(left, sign, place) => {
-            let right = Box::new(alloc, last)?;
-            Ok(Expr::infix(left, sign, right, place))
-        }
-        Frame::Body(body, place) => {
-            let last = Box::new(alloc, last)?;
-            Ok(with_body(body, last, place))
-        }
-        _ => Ok(last),
+        Frame::OperandOf(sign, place) => prefix(alloc, sign, last, place),
+        Frame::RightOf(left, sign, place) => infix(alloc, left, sign, last, place),
+        Frame::Body(body, place) => body_of(alloc, body, last, place),
+        frame => Ok(unchanged(frame, last)),
     }
+}
+
+/// An operator before its operand.
+fn prefix(alloc: Global, sign: Sign, operand: Expr, place: Place) -> Result<Expr, OutOfMemory>
+    ensures { IfOk result (λ tree. view_of tree ≡ prefixed sign (view_of operand) place) }
+{
+    let operand = Box::new(alloc, operand)?;
+    Ok(Expr::prefix(sign, operand, place))
+}
+
+/// An operator between its operands.
+fn infix(
+    alloc: Global,
+    left: Box<Expr>,
+    sign: Sign,
+    right: Expr,
+    place: Place,
+) -> Result<Expr, OutOfMemory>
+    ensures { IfOk result (λ tree. view_of tree ≡ joined (view_of left.value) sign (view_of right) place) }
+{
+    let right = Box::new(alloc, right)?;
+    Ok(Expr::infix(left, sign, right, place))
+}
+
+/// What goes to the right as far as it can, with its last expression.
+fn body_of(alloc: Global, body: Body, last: Expr, place: Place) -> Result<Expr, OutOfMemory>
+    ensures { IfOk result (λ tree. view_of tree ≡ with_body (body_view body) (view_of last) place) }
+{
+    let last = Box::new(alloc, last)?;
+    Ok(with_body(body, last, place))
+}
+
+/// The expression as it is; the frame goes.
+fn unchanged(_frame: Frame, last: Expr) -> Expr
+    ensures { result ≡ last }
+{
+    last
 }
