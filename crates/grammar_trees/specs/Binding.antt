@@ -66,7 +66,7 @@ AreSomeDefinitions (one_defined pattern declared value definitions) = Unit {0}
 
 abbrev pub AreSomeCases : CaseTrees → Type 0
 AreSomeCases no_cases = ⊥
-AreSomeCases (one_case patterns value others) = Unit {0}
+AreSomeCases (one_case _ value others) = Unit {0}
 
 abbrev pub AreSomeMapletPatterns : MapletPatterns → Type 0
 AreSomeMapletPatterns no_maplet_patterns = ⊥
