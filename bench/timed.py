@@ -4,12 +4,27 @@ import subprocess
 import sys
 from pathlib import Path
 
-CRATE = Path(__file__).resolve().parent.parent / "crates/rows"
+TOP = Path(__file__).resolve().parent.parent
+CRATE = TOP / "crates/rows"
 CALLS = 5
 
 
+def is_built():
+    """Whether the program is there, and no source is newer."""
+    program = CRATE / "out/rows"
+    if not program.exists():
+        return False
+    sources = [it for kind in ["*.rt", "*.antt"] for it in (TOP / "crates").rglob(kind)]
+    return all(it.stat().st_mtime <= program.stat().st_mtime for it in [TOP / "crates.txt", *sources])
+
+
 def build():
-    """Proves and links the program, as `rt run` decides; what that prints is shown only where it fails."""
+    """Proves and links the program, as `rt run` decides; what that prints is shown only where it fails.
+
+    What `rt ci` has built is taken as it is: to read the sources of all crates again takes minutes.
+    """
+    if is_built():
+        return
     ran = subprocess.run(["rt", "run"], cwd=CRATE, stdin=subprocess.DEVNULL, stdout=subprocess.PIPE, stderr=subprocess.STDOUT)
     if ran.returncode != 0:
         sys.stderr.write(ran.stdout.decode(errors="replace"))

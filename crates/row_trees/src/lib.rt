@@ -3,6 +3,5 @@
 
 mod specs;
 mod tree_desk;
-mod trees;
 
 pub use tree_desk::TreeDesk;

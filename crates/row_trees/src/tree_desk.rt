@@ -3,6 +3,7 @@
 ghost use Rattle.std.specs.Prelude.{◌≤◌, length, IfSome};
 
 use row_desk::Desk;
+use row_exprs::grow;
 use row_words::Line;
 use std::alloc::Global;
 use vdm_names::Names;
@@ -46,14 +47,9 @@ impl TreeDesk {
             "no-initial" => self.unset_last(),
             "blocks-apart" => self.set_apart(line),
             "expr" => self.read_expr(line),
-            "tree" => self.grow(line),
+            "tree" => grow(&self.plain, &mut self.trees, line),
             _ => self.plain.follow(word, line),
         }
-    }
-
-    fn grow(&mut self, line: &mut Line<'_>) {
-        let tree = self.tree_by(line);
-        line.put(&mut self.trees, tree);
     }
 
     /// The specification, unless it has several classes.

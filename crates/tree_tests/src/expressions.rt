@@ -1,7 +1,6 @@
 // A tree that has every kind of expression, by the constructor functions: a tuple of all leaves, and each other kind round the
 // one before. So it is as deep as those kinds are many, and two more.
 
-use crate::helpers::{at, one};
 use crate::listed::{round_item, round_list};
 use crate::operands::{leaf_of, round_one, round_pattern, round_three, round_two};
 use crate::quantified::{map_comprehension, round_bind, round_binds};
@@ -9,6 +8,7 @@ use expr_tree::Expr;
 use std::alloc::Global;
 use std::test::Fail;
 use tree_depth::expr_depth;
+use tree_fixtures::{at, one};
 use vdm_kinds::OutOfMemory;
 
 fn leaves(alloc: Global) -> Result<Vec<Expr>, OutOfMemory> {

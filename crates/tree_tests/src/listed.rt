@@ -1,8 +1,8 @@
 // Expressions round lists: the inner expression stands in the list.
 
-use crate::helpers::{any_value, at, leaf, one, type_name};
 use expr_tree::{Branch, Case, Defined, Expr, FieldValue, Maplet, Pattern};
 use std::alloc::Global;
+use tree_fixtures::{any_value, at, leaf, one, type_name};
 use vdm_kinds::{Name, OutOfMemory, Place};
 
 fn with_list(kind: u32, head: Box<Expr>, parts: Vec<Expr>, place: Place) -> Expr {

@@ -1,8 +1,8 @@
 // Expressions with no expression in them; and those round one, two or three operands, or a pattern.
 
-use crate::helpers::{any_value, at, leaf, type_name};
 use expr_tree::{Expr, Literal, Pattern, TypeExpr};
 use std::alloc::Global;
+use tree_fixtures::{any_value, at, leaf, type_name};
 use vdm_kinds::{BasicType, Counter, Name, NameAt, OutOfMemory, Place, Sign};
 
 /// The leaves are of the kinds 0 to 9.

@@ -1,8 +1,8 @@
 // Expressions round binds.
 
-use crate::helpers::{at, leaf, one};
 use expr_tree::{Bind, Expr, Pattern};
 use std::alloc::Global;
+use tree_fixtures::{at, leaf, one};
 use vdm_kinds::{OutOfMemory, Place};
 
 // A bind of one pattern, to the set.

@@ -20,7 +20,7 @@ const STEP_LIMIT: u64 = 1_000_000;
 /// Runs an expression under a specification of no class or one, and reports the run. Where memory runs out, the entries made
 /// so far stay.
 pub fn run(alloc: Global, spec: &Spec, tree: &Expr, log: bool) -> Report
-    requires one { length spec.now.classes.items ≤ 1 }
+    requires { length spec.now.classes.items ≤ 1 }
     ensures run { RunsTo (spec_view spec.now) (view_of tree.now) result.journal result.end }
     ensures status { result.status ≡ status_of result.end }
     ensures log { result.log ≡ log }

@@ -7,4 +7,4 @@ mod size;
 
 pub use map::map_from;
 pub use set::set_from;
-pub use size::{depth, nodes};
+pub use size::{depth, nodes, within_limits};

@@ -94,7 +94,11 @@ fn depth_of_entries(pairs: &[(Value, Value)]) -> u64
 }
 
 /// The value itself, where it is within the limits of size.
-pub(crate) fn within_limits(v: Value) -> Result<Value, Halt<RunFault>>
+///
+/// # Errors
+///
+/// `SizeLimit` exactly where it has more than 200,000 nodes or depth above 500.
+pub fn within_limits(v: Value) -> Result<Value, Halt<RunFault>>
     ensures made { IfOk result (λ w. (w ≡ v) × IsWithinLimits v) }
     ensures refused { (fault : RunFault) → result ≡ Err (Halt.Of fault) → (fault ≡ SizeLimit) × IsTooLarge v }
 {

@@ -1,11 +1,11 @@
-// Places, names and leaves that the tests share.
+// Places, names and leaves that tests share.
 
 use expr_tree::{Expr, Pattern};
 use std::alloc::Global;
 use vdm_kinds::{Name, OutOfMemory, Part, Place, TypeName};
 
 /// A place of its own for each number.
-pub(crate) fn at(line: u32) -> Place {
+pub fn at(line: u32) -> Place {
     Place {
         part: Part::Spec,
         line,
@@ -13,7 +13,8 @@ pub(crate) fn at(line: u32) -> Place {
     }
 }
 
-pub(crate) fn type_name() -> TypeName {
+/// A name without a class.
+pub fn type_name() -> TypeName {
     TypeName {
         class: None,
         name: Name(1),
@@ -22,17 +23,17 @@ pub(crate) fn type_name() -> TypeName {
 }
 
 /// A leaf in a box.
-pub(crate) fn leaf(alloc: Global) -> Result<Box<Expr>, OutOfMemory> {
+pub fn leaf(alloc: Global) -> Result<Box<Expr>, OutOfMemory> {
     Ok(Box::new(alloc, Expr::SelfObject(at(99)))?)
 }
 
 /// A pattern in a box.
-pub(crate) fn any_value(alloc: Global) -> Result<Box<Pattern>, OutOfMemory> {
+pub fn any_value(alloc: Global) -> Result<Box<Pattern>, OutOfMemory> {
     Ok(Box::new(alloc, Pattern::AnyValue(at(99)))?)
 }
 
 /// The list of this one item.
-pub(crate) fn one<T: Drop>(alloc: Global, item: T) -> Result<Vec<T>, OutOfMemory> {
+pub fn one<T: Drop>(alloc: Global, item: T) -> Result<Vec<T>, OutOfMemory> {
     let mut items = Vec::new(alloc);
     items.push(item)?;
     Ok(items)

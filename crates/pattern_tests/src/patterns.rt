@@ -1,10 +1,10 @@
 // A pattern that has every kind, by the constructor functions: a tuple of all leaves, and each other kind round the one before.
 
-use crate::helpers::{any_value, at, leaf, one, type_name};
 use expr_tree::{Expr, Literal, MapletPattern, Pattern};
 use std::alloc::Global;
 use std::test::Fail;
 use tree_depth::pattern_depth;
+use tree_fixtures::{any_value, at, leaf, one, type_name};
 use vdm_kinds::{Name, OutOfMemory, Place};
 
 // A pattern with no pattern in it, of the kinds 0 to 4. The last is round an expression.

@@ -1,10 +1,10 @@
 // A type that has every kind, by the constructor functions: a product of all leaves, and each other kind round the one before.
 
-use crate::helpers::{at, one, type_name};
 use expr_tree::TypeExpr;
 use std::alloc::Global;
 use std::test::Fail;
 use tree_depth::type_depth;
+use tree_fixtures::{at, one, type_name};
 use vdm_kinds::{BasicType, Name, OutOfMemory, Place};
 
 // The leaves are of the kinds 0 to 2.
