@@ -74,7 +74,7 @@ fn a_tuple_of_many_names(rt: HostRuntime) -> Result<(), Fail> {
 }
 
 #[test]
-fn the_first_element_is_taken(rt: HostRuntime) -> Result<(), Fail> {
+fn an_element_with_which_names_agree(rt: HostRuntime) -> Result<(), Fail> {
     let pattern = Pattern::set(names(rt.alloc(), 0, 2)?, here());
     let mut parts = Vec::new(rt.alloc());
     parts.push(pattern)?;
