@@ -1,0 +1,7 @@
+//! Answers of rows on operators.
+#![tactic(auto)]
+
+mod applied;
+mod signs;
+
+pub use applied::answer;
