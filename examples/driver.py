@@ -191,9 +191,16 @@ def time(line, asked):
 
 
 def values(line, asked):
-    """order V %| V, rising V %| V .., apart V %| V .., same V %| V, taken V, size V, value V"""
+    """order V %| V, rising V %| V .., apart V %| V .., same V %| V, taken V, size V, value V, part V %| V %| V"""
     for it in parts_of(asked, 1, MANY):
         read(line, it, Reader.value)
+
+
+def operator(line, asked):
+    """unary SIGN V, binary SIGN V %| V"""
+    sign, _, operands = asked.partition(" ")
+    line.put(sign)
+    values(line, operands)
 
 
 def contents(line, asked, kind):
@@ -409,7 +416,8 @@ REQUESTS = {
     **dict.fromkeys(["spec", "accepts"], text),
     "main": main,
     "time": time,
-    **dict.fromkeys(["order", "rising", "apart", "same", "taken", "size", "value"], values),
+    **dict.fromkeys(["order", "rising", "apart", "same", "taken", "size", "value", "part"], values),
+    **dict.fromkeys(["unary", "binary"], operator),
     **dict.fromkeys(["list", "set", "set-size", "insertion", "map", "map-size", "insertion-of-pairs"], items),
     "pairs": pairs,
     "slots": slots,

@@ -64,6 +64,7 @@ fn answer_over_desk(line: &mut Line<'_>, word: &str) {
 // By the first library whose word it is.
 fn answer_by(desk: &mut TreeDesk, line: &mut Line<'_>, word: &str) {
     let is_answered = row_values::answer(&mut desk.plain, line, word)
+        || row_operators::answer(&mut desk.plain, line, word)
         || row_lists::answer(&mut desk.plain, line, word)
         || row_logs::answer(&mut desk.plain, line, word)
         || row_runs::answer(desk, line, word)
