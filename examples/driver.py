@@ -39,6 +39,18 @@ And these are the nodes of a tree, which stand behind their parts, with one blan
     new C@1:5 0@1:1         a new object, with so many arguments before it; the name of its class stands at 1:5
     select f@1:10@1:9       the member of the tree before it; its name stands at 1:10
 
+A pattern is written likewise, with no places:
+
+    -                       any value
+    name a                  a name
+    7   'a'   <Red>   nil   a literal, as a value of no parts
+    "abc"                   a literal, a text of characters of ASCII but "
+    given                   a bracketed expression, the value of which the request gives
+    set 2                   {p, q} of the two patterns before it; seq 2 is [p, q], tuple 2 mk_(p, q), ^ 2 is p ^ q
+    record T 2              mk_T(p, q) of the two patterns before it; no name stands for a type
+    |->                     the pair p |-> q of the two patterns before it; map 1 is the map pattern of one pair
+    {|->}                   the pattern of the empty map
+
 **Words.** They have one blank between each two. The first says what is asked for, then come its own operands, and then
 instructions, each with its operands. The driver keeps what it has made so far, of each kind by itself, and an
 instruction takes the last of it and leaves what it makes. At the end there is what the request needs, in the order of
@@ -90,6 +102,15 @@ These are the instructions:
     tree apply K SPOT                  of the tree before the last K, with these as arguments
     tree new NAME SPOT K SPOT          of the last K trees; the first spot is that of the name
     tree select NAME SPOT SPOT         of the last tree; the first spot is that of the name
+    pattern any   pattern name NAME   pattern given   pattern empty-map
+    pattern literal int INT            pattern literal char N            pattern literal quote NAME
+    pattern literal true   pattern literal false   pattern literal nil
+    pattern literal text K N ..        of K characters of these numbers
+    pattern set K   pattern seq K   pattern tuple K   pattern join K
+                                       of the last K patterns
+    pattern record NAME K              of the last K patterns; the name of its type
+    pattern maplet                     a pair of the last two patterns
+    pattern map K                      of the last K pairs
 
 A line declares a name once, where the notation first has it, and so behind a specification or expression that comes
 before. `held` alone declares its two names once more, at the end, so that it is told which they are.
@@ -232,6 +253,17 @@ def slot(line, asked):
     line.put(word_of(before))
     for it in others:
         read(line, it, Reader.slot)
+
+
+# Patterns.
+
+
+def bind(line, asked):
+    """bind V %| PATTERN, bind V %| PATTERN %| V .., where these V are the values of its bracketed expressions"""
+    value, pattern, *given = parts_of(asked, 2, MANY)
+    for it in [*given, value]:
+        read(line, it, Reader.value)
+    read(line, pattern, Reader.pattern)
 
 
 # Entries, questions and answers.
@@ -422,6 +454,7 @@ REQUESTS = {
     "pairs": pairs,
     "slots": slots,
     "slot": slot,
+    "bind": bind,
     **dict.fromkeys(["entries", "finish"], entries),
     "answers": answers,
     "made": made,

@@ -10,6 +10,9 @@ SPOT = re.compile(r"([0-9]+):([0-9]+)")
 PART = re.compile(r"spec|expr")
 THREAD = re.compile(r"(main|clock)|t([0-9]+)|r([0-9]+)\.([0-9]+)")
 NODE = re.compile(r"\+|[a-z]+ |")
+# What a node of a pattern begins with: a literal with nothing, a text with its first sign.
+PATTERN_NODE = re.compile(r"\{\|->\}|\|->|-(?![0-9])|\^ |given\b|(?:name|set|seq|tuple|map|record) |\"|")
+TEXT = re.compile(r"[^\"]*\"")
 # A value without parts, or what stands before the parts of one.
 VALUE = re.compile(
     rf"""(?P<open>mk_token\(|mk_\(|\[|\{{(?!\|->\}}))
@@ -396,6 +399,42 @@ class Reader:
     def select(self):
         return "select", self.name(), *self.at(), *self.at()
 
+    # Patterns.
+
+    def pattern(self):
+        self.pattern_node()
+        while self.takes(" "):
+            self.pattern_node()
+
+    def pattern_node(self):
+        kind = self.found(PATTERN_NODE)[0].strip()
+        if kind not in PATTERN_NODES:
+            self.fail()
+        self.line.put("pattern", *PATTERN_NODES[kind](self))
+
+    def literal(self):
+        """Reads a value without parts."""
+        found = self.found(VALUE)
+        if found["int"] or found["word"]:
+            return "literal", *(["int"] if found["int"] else []), found[0]
+        if found["sign"] or found["char"]:
+            return "literal", "char", found["char"] or str(ord(found["sign"]))
+        if not found["quote"]:
+            self.fail()
+        return "literal", "quote", self.line.name(found["quote"])
+
+    def characters(self):
+        """Reads the characters of a text, up to its second sign."""
+        text = self.found(TEXT)[0][:-1]
+        return "literal", "text", str(len(text)), *(str(ord(it)) for it in text)
+
+    def record(self):
+        return "record", self.name(), *self.parts()
+
+    def parts(self):
+        self.expect(" ")
+        return (self.number(),)
+
 
 DEEDS = {
     "class": Reader.made,
@@ -422,6 +461,21 @@ NODES = {
     "apply": Reader.apply,
     "new": Reader.new,
     "select": Reader.select,
+}
+PATTERN_NODES = {
+    "": Reader.literal,
+    '"': Reader.characters,
+    "-": lambda _: ("any",),
+    "given": lambda _: ("given",),
+    "{|->}": lambda _: ("empty-map",),
+    "|->": lambda _: ("maplet",),
+    "name": lambda it: ("name", it.name()),
+    "set": lambda it: ("set", it.number()),
+    "seq": lambda it: ("seq", it.number()),
+    "tuple": lambda it: ("tuple", it.number()),
+    "map": lambda it: ("map", it.number()),
+    "^": lambda it: ("join", it.number()),
+    "record": Reader.record,
 }
 
 

@@ -66,6 +66,7 @@ fn answer_by(desk: &mut TreeDesk, line: &mut Line<'_>, word: &str) {
     let is_answered = row_values::answer(&mut desk.plain, line, word)
         || row_operators::answer(&mut desk.plain, line, word)
         || row_lists::answer(&mut desk.plain, line, word)
+        || row_patterns::answer(&mut desk.plain, line, word)
         || row_logs::answer(&mut desk.plain, line, word)
         || row_runs::answer(desk, line, word)
         || row_machines::answer(desk, line, word)
