@@ -17,7 +17,7 @@ pub(crate) fn multiples(line: &mut Line<'_>, count: u64, step: u64) -> Value {
 
 /// The sequence of so many numbers.
 pub(crate) fn sequence(line: &mut Line<'_>, count: u64) -> Value {
-    Value::new(Node::Seq(ValueList::from_vec(numbers(line, count, 1))))
+    Value::new(Node::Seq(numbers(line, count, 1)))
 }
 
 /// A sequence of sequences that have so many items together, or up to nine fewer.
@@ -27,7 +27,7 @@ pub(crate) fn parts(line: &mut Line<'_>, count: u64) -> Value {
         let part = sequence(line, PART);
         line.put(&mut parts, part);
     }
-    Value::new(Node::Seq(ValueList::from_vec(parts)))
+    Value::new(Node::Seq(parts))
 }
 
 /// The map that has each of so many numbers as its own value.
