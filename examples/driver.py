@@ -204,7 +204,7 @@ def main(line, asked):
 
 
 def time(line, asked):
-    """time set KIND N, time lex KIND N, time text KIND N"""
+    """time set KIND N, time lex KIND N, time text KIND N, time operator KIND N"""
     line.put(*asked.split(" "))
 
 

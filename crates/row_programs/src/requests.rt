@@ -50,6 +50,7 @@ fn answer<R: Clock>(rt: &R, line: &mut Line<'_>) {
 fn answer_time<R: Clock>(rt: &R, line: &mut Line<'_>) {
     match line.word() {
         "grammar" => row_grammar_times::answer_time(rt, line),
+        "operator" => row_operator_times::answer_time(rt, line),
         word => row_values::answer_time(rt, line, word),
     }
 }
