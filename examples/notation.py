@@ -429,7 +429,26 @@ class Reader:
         return "literal", "text", str(len(text)), *(str(ord(it)) for it in text)
 
     def record(self):
-        return "record", self.name(), *self.parts()
+        name = self.name()
+        if self.takes("`"):
+            return "record-of", name, self.name(), *self.parts()
+        return "record", name, *self.parts()
+
+    def record_types(self):
+        self.expect("in ")
+        self.line.put("scope", self.name())
+        sign = ": "
+        while self.place < len(self.text):
+            self.expect(sign)
+            self.record_type()
+            sign = ", "
+
+    def record_type(self):
+        owner, name = self.variable()
+        self.expect("(")
+        fields = []
+        self.listed(lambda: fields.append(self.name()), ")")
+        self.line.put("record-type", owner, name, str(len(fields)), *fields)
 
     def parts(self):
         self.expect(" ")
