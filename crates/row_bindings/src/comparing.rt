@@ -61,12 +61,7 @@ fn compare(desk: &mut Desk, line: &mut Line<'_>, inputs: &mut Inputs) {
 }
 
 // Says what differs, where the next input does.
-fn is_same(
-    desk: &mut Desk,
-    line: &mut Line<'_>,
-    inputs: &mut Inputs,
-    tally: &mut Tally,
-) -> bool {
+fn is_same(desk: &mut Desk, line: &mut Line<'_>, inputs: &mut Inputs, tally: &mut Tally) -> bool {
     match inputs.next(line.alloc()) {
         Ok(words) => is_same_for(desk, line, words.as_str(), tally),
         Err(_) => {

@@ -192,7 +192,11 @@ impl Inputs {
     }
 
     fn mostly(&mut self, number: u32) -> u32 {
-        if self.random.once_in(8) { OTHER } else { number }
+        if self.random.once_in(8) {
+            OTHER
+        } else {
+            number
+        }
     }
 
     fn any_name(&mut self) {
@@ -252,7 +256,11 @@ impl Inputs {
         let kind = self.random.below(3);
         let count = if self.random.once_in(6) { 1 } else { 0 };
         if count == 1 {
-            self.words.value(if kind == 2 { "int 9 int 9 tuple 2" } else { "int 9" });
+            self.words.value(if kind == 2 {
+                "int 9 int 9 tuple 2"
+            } else {
+                "int 9"
+            });
         }
         match kind {
             0 => self.emptied("set 0", "set", count),

@@ -10,6 +10,7 @@ pub(crate) struct Random {
 
 /// Those of Knuth's MMIX, by which each of the 2^64 states comes once.
 const MULTIPLIER: u64 = 6_364_136_223_846_793_005;
+
 const ADDEND: u64 = 1_442_695_040_888_963_407;
 
 /// The low bits of states repeat soon, so they are left out.

@@ -7,7 +7,8 @@ use vdm_kinds::OutOfMemory;
 /// What stands before the words of each input: the numbers of its names, and the record types that there are. The names from 0 on may be
 /// bound, 3 is that of a quote, 4 and 5 are classes. Of the types, 6 is in both classes, 7 in the first one, which is the scope, and 8 in
 /// none.
-const DECLARED: &str = "number 0 number 1 number 2 number 3 number 4 number 5 number 6 number 7 number 8 scope 4 record-type 4 6 0 record-type 4 7 0 record-type 5 6 0";
+const DECLARED: &str =
+    "number 0 number 1 number 2 number 3 number 4 number 5 number 6 number 7 number 8 scope 4 record-type 4 6 0 record-type 4 7 0 record-type 5 6 0";
 
 /// The words that make values that are given, a value and a pattern, each in text order. Want of memory is noted.
 #[derive(Drop)]
@@ -91,12 +92,7 @@ fn say(out: &mut String, before: &str, word: &str) -> Result<(), OutOfMemory> {
     Ok(out.push_str(word)?)
 }
 
-fn say_number(
-    out: &mut String,
-    before: &str,
-    word: &str,
-    number: u32,
-) -> Result<(), OutOfMemory> {
+fn say_number(out: &mut String, before: &str, word: &str, number: u32) -> Result<(), OutOfMemory> {
     say(out, before, word)?;
     write!(out, " {number}").map_err(|_| OutOfMemory)
 }

@@ -50,16 +50,18 @@ impl Asked {
     /// The first binding.
     pub fn first(&self, alloc: Global) -> Result<Option<BindList>, Halt<RunFault>> {
         let scope = self.types.scope;
-        bind(alloc, &self.pattern, &self.value, &self.given, scope, &self.types)
+        bind(
+            alloc,
+            &self.pattern,
+            &self.value,
+            &self.given,
+            scope,
+            &self.types,
+        )
     }
 }
 
-fn follow(
-    desk: &mut Desk,
-    growing: &mut Growing,
-    types: &mut RecordTypes,
-    line: &mut Line<'_>,
-) {
+fn follow(desk: &mut Desk, growing: &mut Growing, types: &mut RecordTypes, line: &mut Line<'_>) {
     for _word in 0..line.bound() {
         if line.is_over() {
             break;

@@ -11,7 +11,6 @@ mod record_types;
 
 pub use asked::Asked;
 pub use record_types::RecordTypes;
-
 use row_desk::Desk;
 use row_words::Line;
 
