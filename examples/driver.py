@@ -114,6 +114,8 @@ These are the instructions:
     pattern map K                      of the last K pairs
     scope NAME                         the class in which the names of types are written
     record-type NAME NAME K NAME ..    a record type: the names of its class and its own, and of its K fields
+    same-type NAME NAME plain alone NAME                 likewise, with a type above it that it is; `bracketed` where that
+                                       stands in brackets, and `of NAME` for `alone` where it stands behind its class
 
 A line declares a name once, where the notation first has it, and so behind a specification or expression that comes
 before. `held` alone declares its two names once more, at the end, so that it is told which they are.
@@ -264,8 +266,9 @@ def slot(line, asked):
 def bind(line, asked):
     """bind V %| PATTERN, bind V %| PATTERN %| V .., where these V are the values of its bracketed expressions
 
-    Before it may stand the record types that there are, and the class in which names of types are written, as in
-    `bind in C: C`T(a, b), D`T(a) %| V %| PATTERN`. Without them there are none.
+    Before it may stand the types that there are, and the class in which names of types are written, as in
+    `bind in C: C`T(a, b), D`T(a), C`S = T, C`R = (D`T) %| V %| PATTERN`. A type that is another stands behind it, else it is
+    not found. Without them there are none.
     """
     if asked.startswith("in "):
         types, _, asked = asked.partition(" %| ")

@@ -70,6 +70,7 @@ fn follow(desk: &mut Desk, growing: &mut Growing, types: &mut RecordTypes, line:
             "pattern" => growing.grow(desk, line),
             "scope" => types.scope = desk.name(line),
             "record-type" => types.declare(desk, line),
+            "same-type" => types.rename(desk, line),
             word => desk.follow(word, line),
         }
     }

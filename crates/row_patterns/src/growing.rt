@@ -142,10 +142,16 @@ fn characters(line: &mut Line<'_>) -> Vec<char> {
     characters
 }
 
+/// The one place of all that has none of its own.
 pub(crate) fn here() -> Place {
+    on_line(1)
+}
+
+/// The beginning of a line.
+pub(crate) fn on_line(line: u32) -> Place {
     Place {
         part: Part::Expr,
-        line: 1,
+        line,
         column: 1,
     }
 }

@@ -1,20 +1,21 @@
-// The record types that a request declares.
+// The types that a request declares.
 
 ghost use Rattle.std.specs.Prelude.{◌≡◌, false, map, option_map};
 ghost use Rattle.std.specs.Borrow.{Bor};
-ghost use Rattle.expr_tree.specs.TypeDefView.{type_def_view};
+ghost use Rattle.expr_tree.specs.TypeDefView.{type_def_view, type_body_view};
 ghost use Rattle.expr_tree.specs.declared.type_def.TypeDef.{TypeDef as TypeDefinition};
-ghost use Rattle.row_patterns.specs.Finding.{finds, first_named, is_record, number_of, finds-ranked};
+ghost use Rattle.type_tree.specs.TypeView.{type_view};
+ghost use Rattle.row_patterns.specs.Finding.{finds, first_named, if_known, is_above, is_known, is_named, line_of, looked_up, name_alone, name_of, finds-ranked};
 
-use crate::growing::here;
+use crate::growing::{here, on_line};
 use expr_tree::{Field, TypeBody, TypeDef, TypeNames};
 use row_desk::Desk;
 use row_words::Line;
 use std::alloc::Global;
 use type_tree::TypeExpr;
-use vdm_kinds::{Access, BasicType, Level, Name};
+use vdm_kinds::{Access, BasicType, Level, Name, TypeName};
 
-/// Record types, and the class in which their names are written. A name of another type stands for none.
+/// Types that have fields, or are names of others declared before them, and the class in which names of types are written.
 pub struct RecordTypes {
     pub scope: Name,
     types: Vec<TypeDef>,
@@ -44,6 +45,19 @@ impl RecordTypes {
         let class = desk.name(line);
         let name = desk.name(line);
         let fields = fields(desk, line);
+        self.put(class, name, TypeBody::Fields(fields), line);
+    }
+
+    /// Declares the type that stands next as the name of another: its class, its name, and the other.
+    pub(crate) fn rename(&mut self, desk: &Desk, line: &mut Line<'_>) {
+        let class = desk.name(line);
+        let name = desk.name(line);
+        let other = other(desk, line);
+        self.put(class, name, TypeBody::Same(other), line);
+    }
+
+    fn put(&mut self, class: Name, name: Name, body: TypeBody, line: &mut Line<'_>) {
+        let place = on_line(u32::try_from(self.types.len()).unwrap_or(u32::MAX));
         let declared = TypeDef {
             access: Access {
                 is_static: false,
@@ -51,10 +65,10 @@ impl RecordTypes {
             },
             class,
             name,
-            name_place: here(),
-            body: TypeBody::Fields(fields),
+            name_place: place,
+            body,
             invariant: None,
-            place: here(),
+            place,
         };
         line.put(&mut self.types, declared);
     }
@@ -63,12 +77,13 @@ impl RecordTypes {
 impl TypeNames for RecordTypes {
     ghost found = { λ names. finds (map type_def_view names.types.items) };
 
-    ghost rank = { λ names. number_of };
+    ghost rank = { λ names. line_of };
 
     ghost descends = { λ names class ancestor. false };
 
     fn type_def(&self, scope: Name, class: Option<Name>, name: Name) -> Option<&TypeDef> {
-        record_type(self.types.as_slice(), class.unwrap_or(scope), name)
+        let types = self.types.as_slice();
+        known(types, look_up(types, scope, class, name))
     }
 
     fn is_kind_of(&self, _class: Name, _ancestor: Name) -> bool {
@@ -82,24 +97,83 @@ impl TypeNames for RecordTypes {
     ghost ranked = { λ names. finds-ranked (map type_def_view names.types.items) };
 }
 
-// The first record type of this class and name.
-fn record_type(types: &[TypeDef], class: Name, name: Name) -> Option<&TypeDef>
+// The type, where it has fields or its name is that of one above it.
+fn known<'t>(types: &'t [TypeDef], found: Option<&'t TypeDef>) -> Option<&'t TypeDef>
+    ensures { option_map (λ (d : Bor TypeDefinition). type_def_view d.now) result ≡ if_known (map type_def_view types.now) (option_map (λ (d : Bor TypeDefinition). type_def_view d.now) found.entry) }
+{
+    let declared = found?;
+    if is_known(types, declared) {
+        Some(declared)
+    } else {
+        None
+    }
+}
+
+fn is_known(types: &[TypeDef], declared: &TypeDef) -> bool
+    ensures { result ≡ is_known (map type_def_view types.now) (type_def_view declared.now) (type_body_view declared.now.body) }
+{
+    match &declared.body {
+        TypeBody::Fields(_) => true,
+        TypeBody::Same(other) => match name_of(other) {
+            Some(other) => {
+                let found = look_up(types, declared.class, other.class, other.name);
+                is_above(found, declared.place.line)
+            }
+            None => false,
+        },
+    }
+}
+
+fn is_above(found: Option<&TypeDef>, line: u32) -> bool
+    ensures { result ≡ is_above (option_map (λ (d : Bor TypeDefinition). type_def_view d.now) found.entry) line }
+{
+    match found {
+        Some(declared) => declared.place.line < line,
+        None => true,
+    }
+}
+
+fn look_up(types: &[TypeDef], scope: Name, class: Option<Name>, name: Name) -> Option<&TypeDef>
+    ensures { option_map (λ (d : Bor TypeDefinition). type_def_view d.now) result ≡ looked_up (map type_def_view types.now) scope class name }
+{
+    first_named(types, class.unwrap_or(scope), name)
+}
+
+// The first type of this class and name.
+fn first_named(types: &[TypeDef], class: Name, name: Name) -> Option<&TypeDef>
     ensures { option_map (λ (d : Bor TypeDefinition). type_def_view d.now) result ≡ first_named (map type_def_view types.now) class name }
 {
     for declared in types {
-        if is_record(declared, class, name) {
+        if is_named(declared, class, name) {
             return Some(declared);
         }
     }
     None
 }
 
-fn is_record(declared: &TypeDef, class: Name, name: Name) -> bool
-    ensures { result ≡ is_record (type_def_view declared.now) class name }
+fn is_named(declared: &TypeDef, class: Name, name: Name) -> bool
+    ensures { result ≡ is_named (type_def_view declared.now) class name }
 {
-    match declared.body {
-        TypeBody::Fields(_) => declared.class.0 == class.0 && declared.name.0 == name.0,
-        TypeBody::Same(_) => false,
+    declared.class.0 == class.0 && declared.name.0 == name.0
+}
+
+// The name that a type is, perhaps in brackets.
+fn name_of(declared: &TypeExpr) -> Option<TypeName>
+    ensures { result ≡ name_of (type_view declared.now) }
+{
+    match declared {
+        TypeExpr::Named(name, _) => Some(*name),
+        TypeExpr::Bracketed(inner, _) => name_alone(inner),
+        _ => None,
+    }
+}
+
+fn name_alone(declared: &TypeExpr) -> Option<TypeName>
+    ensures { result ≡ name_alone (type_view declared.now) }
+{
+    match declared {
+        TypeExpr::Named(name, _) => Some(*name),
+        _ => None,
     }
 }
 
@@ -115,4 +189,39 @@ fn fields(desk: &Desk, line: &mut Line<'_>) -> Vec<Field> {
         line.put(&mut fields, field);
     }
     fields
+}
+
+// The type whose name stands next, in brackets or not, behind the name of a class or not.
+fn other(desk: &Desk, line: &mut Line<'_>) -> TypeExpr {
+    match line.word() {
+        "bracketed" => bracketed(named(desk, line), line),
+        "plain" => named(desk, line),
+        _ => {
+            line.refuse();
+            TypeExpr::basic(BasicType::Nat, here())
+        }
+    }
+}
+
+fn named(desk: &Desk, line: &mut Line<'_>) -> TypeExpr {
+    let class = match line.word() {
+        "of" => Some(desk.name(line)),
+        _ => None,
+    };
+    let name = TypeName {
+        class,
+        name: desk.name(line),
+        name_place: here(),
+    };
+    TypeExpr::named(name, here())
+}
+
+fn bracketed(inner: TypeExpr, line: &mut Line<'_>) -> TypeExpr {
+    match Box::new(line.alloc(), inner) {
+        Ok(inner) => TypeExpr::Bracketed(inner, here()),
+        Err(_) => {
+            line.fall_short();
+            TypeExpr::basic(BasicType::Nat, here())
+        }
+    }
 }

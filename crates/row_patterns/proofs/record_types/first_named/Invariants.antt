@@ -1,7 +1,7 @@
 use Rattle.std.proofs.Common.{◌≡◌, map, drop}
 use Rattle.expr_tree.specs.TypeDefView.{type_def_view}
 use Rattle.row_patterns.specs.Finding.{first_named}
-use Rattle.row_patterns.proofs.record_types.record_type.Given as goal
+use Rattle.row_patterns.proofs.record_types.first_named.Given as goal
 
 -- what the rest has first is what all have first
 abbrev pub invariant-loop-declared : goal.invariant-loop-declared
