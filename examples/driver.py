@@ -279,8 +279,8 @@ def bind(line, asked):
     read(line, pattern, Reader.pattern)
 
 
-def compare(line, asked):
-    """compare patterns SEED COUNT"""
+def bindings(line, asked):
+    """bindings SEED COUNT"""
     line.put(*asked.split(" "))
 
 
@@ -473,7 +473,7 @@ REQUESTS = {
     "slots": slots,
     "slot": slot,
     "bind": bind,
-    "compare": compare,
+    "bindings": bindings,
     **dict.fromkeys(["entries", "finish"], entries),
     "answers": answers,
     "made": made,

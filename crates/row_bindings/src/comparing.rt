@@ -1,4 +1,4 @@
-// `compare patterns SEED COUNT`: finds the first binding of so many patterns with values, and all their bindings one after the other. How
+// `bindings SEED COUNT`: finds the first binding of so many patterns with values, and all their bindings one after the other. How
 // many of them match, miss, and have different bindings; or else the request of the first one for which the two are not the same.
 
 use crate::inputs::Inputs;
@@ -34,11 +34,8 @@ struct Tally {
 
 /// Answers a request; tells whether the word is one of this library's.
 pub fn answer(desk: &mut Desk, line: &mut Line<'_>, word: &str) -> bool {
-    if word != "compare" {
+    if word != "bindings" {
         return false;
-    }
-    if line.word() != "patterns" {
-        line.refuse();
     }
     let seed = line.whole();
     let mut inputs = Inputs::new(line.alloc(), seed);
