@@ -69,7 +69,7 @@ fn is_same(desk: &mut Desk, line: &mut Line<'_>, inputs: &mut Inputs, tally: &mu
 }
 
 fn is_same_for(desk: &mut Desk, line: &mut Line<'_>, words: &str, tally: &mut Tally) -> bool {
-    match outcome(desk, line, words) {
+    match judged(desk, line, words) {
         Outcome::Differs => {
             line.say("differs: bind ");
             line.say(words);
@@ -82,7 +82,7 @@ fn is_same_for(desk: &mut Desk, line: &mut Line<'_>, words: &str, tally: &mut Ta
     true
 }
 
-fn outcome(desk: &mut Desk, line: &mut Line<'_>, words: &str) -> Outcome {
+fn judged(desk: &mut Desk, line: &mut Line<'_>, words: &str) -> Outcome {
     let mut input = Line::new(line.alloc(), words);
     let asked = Asked::read(desk, &mut input);
     if input.is_short() {
