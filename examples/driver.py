@@ -47,7 +47,7 @@ A pattern is written likewise, with no places:
     "abc"                   a literal, a text of characters of ASCII but "
     given                   a bracketed expression, the value of which the request gives
     set 2                   {p, q} of the two patterns before it; seq 2 is [p, q], tuple 2 mk_(p, q), ^ 2 is p ^ q
-    record T 2              mk_T(p, q) of the two patterns before it; no name stands for a type
+    record T 2              mk_T(p, q) of the two patterns before it; record C`T 2 likewise, with the class of the type
     |->                     the pair p |-> q of the two patterns before it; map 1 is the map pattern of one pair
     {|->}                   the pattern of the empty map
 
@@ -109,8 +109,13 @@ These are the instructions:
     pattern set K   pattern seq K   pattern tuple K   pattern join K
                                        of the last K patterns
     pattern record NAME K              of the last K patterns; the name of its type
+    pattern record-of NAME NAME K      likewise; the names of its class and its own
     pattern maplet                     a pair of the last two patterns
     pattern map K                      of the last K pairs
+    scope NAME                         the class in which the names of types are written
+    record-type NAME NAME K NAME ..    a record type: the names of its class and its own, and of its K fields
+    same-type NAME NAME plain alone NAME                 likewise, with a type above it that it is; `bracketed` where that
+                                       stands in brackets, and `of NAME` for `alone` where it stands behind its class
 
 A line declares a name once, where the notation first has it, and so behind a specification or expression that comes
 before. `held` alone declares its two names once more, at the end, so that it is told which they are.
@@ -204,7 +209,7 @@ def main(line, asked):
 
 
 def time(line, asked):
-    """time set KIND N, time lex KIND N, time text KIND N, time operator KIND N"""
+    """time set KIND N, time lex KIND N, time text KIND N, time operator KIND N, time bind KIND N"""
     line.put(*asked.split(" "))
 
 
@@ -259,11 +264,24 @@ def slot(line, asked):
 
 
 def bind(line, asked):
-    """bind V %| PATTERN, bind V %| PATTERN %| V .., where these V are the values of its bracketed expressions"""
+    """bind V %| PATTERN, bind V %| PATTERN %| V .., where these V are the values of its bracketed expressions
+
+    Before it may stand the types that there are, and the class in which names of types are written, as in
+    `bind in C: C`T(a, b), D`T(a), C`S = T, C`R = (D`T) %| V %| PATTERN`. A type that is another stands behind it, else it is
+    not found. Without them there are none.
+    """
+    if asked.startswith("in "):
+        types, _, asked = asked.partition(" %| ")
+        read(line, types, Reader.record_types)
     value, pattern, *given = parts_of(asked, 2, MANY)
     for it in [*given, value]:
         read(line, it, Reader.value)
     read(line, pattern, Reader.pattern)
+
+
+def bindings(line, asked):
+    """bindings SEED COUNT"""
+    line.put(*asked.split(" "))
 
 
 # Entries, questions and answers.
@@ -455,6 +473,7 @@ REQUESTS = {
     "slots": slots,
     "slot": slot,
     "bind": bind,
+    "bindings": bindings,
     **dict.fromkeys(["entries", "finish"], entries),
     "answers": answers,
     "made": made,

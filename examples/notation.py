@@ -429,7 +429,41 @@ class Reader:
         return "literal", "text", str(len(text)), *(str(ord(it)) for it in text)
 
     def record(self):
-        return "record", self.name(), *self.parts()
+        name = self.name()
+        if self.takes("`"):
+            return "record-of", name, self.name(), *self.parts()
+        return "record", name, *self.parts()
+
+    def record_types(self):
+        self.expect("in ")
+        self.line.put("scope", self.name())
+        sign = ": "
+        while self.place < len(self.text):
+            self.expect(sign)
+            self.record_type()
+            sign = ", "
+
+    def record_type(self):
+        owner, name = self.variable()
+        if self.takes(" = "):
+            self.line.put("same-type", owner, name, *self.other_type())
+            return
+        self.expect("(")
+        fields = []
+        self.listed(lambda: fields.append(self.name()), ")")
+        self.line.put("record-type", owner, name, str(len(fields)), *fields)
+
+    def other_type(self):
+        """Reads the name of a type, perhaps in brackets and behind a class, and returns the words that say it."""
+        if self.takes("("):
+            words = ("bracketed", *self.type_name())
+            self.expect(")")
+            return words
+        return "plain", *self.type_name()
+
+    def type_name(self):
+        name = self.name()
+        return ("of", name, self.name()) if self.takes("`") else ("alone", name)
 
     def parts(self):
         self.expect(" ")

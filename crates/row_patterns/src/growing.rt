@@ -54,7 +54,8 @@ impl Growing {
             "given" => given(line),
             "empty-map" => Pattern::EmptyMap(here()),
             "map" => self.map(line),
-            "record" => self.record(desk.name(line), line),
+            "record" => self.record(None, desk.name(line), line),
+            "record-of" => self.record(Some(desk.name(line)), desk.name(line), line),
             _ => self.list(word, line),
         }
     }
@@ -64,9 +65,9 @@ impl Growing {
         Pattern::map(line.last_of(&mut self.maplets, count), here())
     }
 
-    fn record(&mut self, name: Name, line: &mut Line<'_>) -> Pattern {
+    fn record(&mut self, class: Option<Name>, name: Name, line: &mut Line<'_>) -> Pattern {
         let type_name = TypeName {
-            class: None,
+            class,
             name,
             name_place: here(),
         };
@@ -141,10 +142,16 @@ fn characters(line: &mut Line<'_>) -> Vec<char> {
     characters
 }
 
-fn here() -> Place {
+/// The one place of all that has none of its own.
+pub(crate) fn here() -> Place {
+    on_line(1)
+}
+
+/// The beginning of a line.
+pub(crate) fn on_line(line: u32) -> Place {
     Place {
         part: Part::Expr,
-        line: 1,
+        line,
         column: 1,
     }
 }

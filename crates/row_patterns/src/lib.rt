@@ -4,10 +4,13 @@
 //! stands on a desk that is lent.
 #![tactic(auto)]
 
+mod asked;
 mod binding;
 mod growing;
-mod no_types;
+mod record_types;
 
+pub use asked::Asked;
+pub use record_types::RecordTypes;
 use row_desk::Desk;
 use row_words::Line;
 

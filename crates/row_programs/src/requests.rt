@@ -51,6 +51,7 @@ fn answer_time<R: Clock>(rt: &R, line: &mut Line<'_>) {
     match line.word() {
         "grammar" => row_grammar_times::answer_time(rt, line),
         "operator" => row_operator_times::answer_time(rt, line),
+        "bind" => row_bindings::answer_time(rt, line),
         word => row_values::answer_time(rt, line, word),
     }
 }
@@ -68,6 +69,7 @@ fn answer_by(desk: &mut TreeDesk, line: &mut Line<'_>, word: &str) {
         || row_operators::answer(&mut desk.plain, line, word)
         || row_lists::answer(&mut desk.plain, line, word)
         || row_patterns::answer(&mut desk.plain, line, word)
+        || row_bindings::answer(&mut desk.plain, line, word)
         || row_logs::answer(&mut desk.plain, line, word)
         || row_runs::answer(desk, line, word)
         || row_machines::answer(desk, line, word)
