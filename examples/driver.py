@@ -223,10 +223,15 @@ def values(line, asked):
 
 
 def operator(line, asked):
-    """unary SIGN V, binary SIGN V %| V"""
+    """unary SIGN V, binary SIGN V %| V, unary-size and binary-size likewise"""
     sign, _, operands = asked.partition(" ")
     line.put(sign)
     values(line, operands)
+
+
+def compare(line, asked):
+    """compare operators SEED COUNT"""
+    line.put(*asked.split(" "))
 
 
 def contents(line, asked, kind):
@@ -467,7 +472,8 @@ REQUESTS = {
     "main": main,
     "time": time,
     **dict.fromkeys(["order", "rising", "apart", "same", "taken", "size", "value", "part"], values),
-    **dict.fromkeys(["unary", "binary"], operator),
+    **dict.fromkeys(["unary", "binary", "unary-size", "binary-size"], operator),
+    "compare": compare,
     **dict.fromkeys(["list", "set", "set-size", "insertion", "map", "map-size", "insertion-of-pairs"], items),
     "pairs": pairs,
     "slots": slots,

@@ -1,8 +1,9 @@
 // `time operator KIND N`: how many parts has what an operator gives, and the nanoseconds of the call. The operands have N
 // parts each: the multiples of 2 and of 3 (`union`, `inter`), the greatest of N members (`in-set`), two sequences (`^`),
-// sequences of ten items (`conc`), or two maps that are the same (`munion`, `++`).
+// one (`inds`, `elems`), sequences of ten items (`conc`), sets of ten members (`dunion`), maps of ten pairs (`merge`), or two
+// maps that are the same (`munion`, `++`).
 
-use crate::operands::{identity, multiples, number, parts, sequence};
+use crate::operands::{identity, maps, multiples, number, parts, sequence, sets};
 use row_values::{nanoseconds, say_time};
 use row_words::Line;
 use std::rt::Clock;
@@ -20,7 +21,8 @@ pub fn answer_time<R: Clock>(rt: &R, line: &mut Line<'_>) {
         "inter" => time_sets(rt, line, Operator::Inter, count),
         "in-set" => time_member(rt, line, count),
         "^" => time_sequences(rt, line, count),
-        "conc" => time_parts(rt, line, count),
+        "inds" | "elems" => time_sequence(rt, line, kind, count),
+        "conc" | "dunion" | "merge" => time_parts(rt, line, kind, count),
         "munion" => time_maps(rt, line, Operator::MapUnion, count),
         "++" => time_maps(rt, line, Operator::Override, count),
         _ => line.refuse(),
@@ -51,10 +53,34 @@ fn time_maps<R: Clock>(rt: &R, line: &mut Line<'_>, operator: Operator, count: u
     time_binary(rt, line, operator, &a, &b);
 }
 
-fn time_parts<R: Clock>(rt: &R, line: &mut Line<'_>, count: u64) {
-    let a = parts(line, count);
+fn time_sequence<R: Clock>(rt: &R, line: &mut Line<'_>, kind: &str, count: u64) {
+    let a = sequence(line, count);
+    match kind {
+        "inds" => time_unary(rt, line, Operator::Indices, &a),
+        _ => time_unary(rt, line, Operator::Elements, &a),
+    }
+}
+
+fn time_parts<R: Clock>(rt: &R, line: &mut Line<'_>, kind: &str, count: u64) {
+    match kind {
+        "conc" => {
+            let a = parts(line, count);
+            time_unary(rt, line, Operator::DistributedConcatenation, &a);
+        }
+        "dunion" => {
+            let a = sets(line, count);
+            time_unary(rt, line, Operator::DistributedUnion, &a);
+        }
+        _ => {
+            let a = maps(line, count);
+            time_unary(rt, line, Operator::Merge, &a);
+        }
+    }
+}
+
+fn time_unary<R: Clock>(rt: &R, line: &mut Line<'_>, operator: Operator, a: &Value) {
     let began = Instant::now(rt).ok();
-    let made = unary(line.alloc(), Operator::DistributedConcatenation, &a);
+    let made = unary(line.alloc(), operator, a);
     let taken = nanoseconds(rt, line, began);
     match made {
         Ok(value) => say_time(line, size(&value), taken),

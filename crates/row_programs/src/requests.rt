@@ -67,6 +67,7 @@ fn answer_over_desk(line: &mut Line<'_>, word: &str) {
 fn answer_by(desk: &mut TreeDesk, line: &mut Line<'_>, word: &str) {
     let is_answered = row_values::answer(&mut desk.plain, line, word)
         || row_operators::answer(&mut desk.plain, line, word)
+        || row_comparisons::answer(line, word)
         || row_lists::answer(&mut desk.plain, line, word)
         || row_patterns::answer(&mut desk.plain, line, word)
         || row_bindings::answer(&mut desk.plain, line, word)

@@ -4,7 +4,6 @@
 //! stands on a desk that is lent.
 #![tactic(auto)]
 
-mod insertion;
 mod kinds;
 mod lexemes;
 mod sets;

@@ -2,8 +2,8 @@
 // nodes and levels of it. A refusal is told by its number and name. `insertion` and `insertion-of-pairs`: how many the
 // plain program leaves, which inserts one after another, and whether the set or map has these.
 
-use crate::insertion::rising_by_insertion;
 use crate::values::say_size;
+use plain_operators::rising_by_insertion;
 use row_desk::{Desk, made_value, pairs_of};
 use row_words::Line;
 use vdm_kinds::{Halt, OutOfMemory, RunFault};

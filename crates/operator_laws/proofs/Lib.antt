@@ -1,0 +1,4 @@
+mod Parts
+mod SetMembers
+mod MapPairs
+mod Replacements
