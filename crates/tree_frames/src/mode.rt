@@ -10,7 +10,7 @@ pub enum Mode {
     /// An expression is wanted.
     Wants,
     /// An expression was read.
-    Has(Expr),
+    Has(Box<Expr>),
     /// A pattern is wanted.
     WantsPattern,
     /// A pattern was read.

@@ -5,4 +5,4 @@ use Rattle.tree_frames.proofs.Pushes.{exprs-push}
 use Rattle.tree_frames.proofs.lists.with_expr.Goals as goal
 
 pub returns : goal.returns
-returns c = ap (λ (items : List Expr). expr_trees (views_of items)) c.in_ok-push.ensures.items ∙ exprs-push c.args.items.items c.args.last
+returns c = ap (λ (items : List Expr). expr_trees (views_of items)) c.in_ok-push.ensures.items ∙ exprs-push c.args.items.items c.args.last.value
