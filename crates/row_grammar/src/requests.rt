@@ -1,16 +1,13 @@
-// `type PART TEXT`: the type that a text begins with, the number of the lexeme behind it and the names that it has, or the
-// fault.
+// `type PART TEXT`, `pattern PART TEXT`, `expression PART TEXT`: the tree that a text begins with, the number of the lexeme
+// behind it and the names that it has, or the fault.
 
+ghost use Rattle.std.specs.Prelude.{◌<◌, ◌^◌, length};
 ghost use Rattle.expr_grammar.specs.Answers.{AreOf};
 
-use crate::node::Node;
-use crate::types::type_node;
-use crate::writer::Writer;
-use expr_grammar::type_of_tokens;
-use expr_tree::TypeExpr;
+use expr_grammar::{expr_of_tokens, pattern_of_tokens, type_of_tokens};
+use row_notation::{say_expr, say_pattern, say_type};
 use row_words::Line;
-use std::alloc::Global;
-use vdm_kinds::{Halt, Name, Part, SpecFault};
+use vdm_kinds::{Halt, Name, SpecFault};
 use vdm_lexer::{Lexeme, lex};
 use vdm_names::Names;
 
@@ -22,39 +19,82 @@ const BUILT_IN: usize = 3;
 /// Answers a request; tells whether the word is one of this library's.
 pub fn answer(names: &mut Names, line: &mut Line<'_>, word: &str) -> bool {
     match word {
-        "type" => {
-            let part = line.part();
-            let text = line.bytes();
-            answer_text(names, line, part, &text);
-        }
+        "type" | "pattern" | "expression" => answer_text(names, line, word),
         _ => return false,
     }
     true
 }
 
-fn answer_text(names: &mut Names, line: &mut Line<'_>, part: Part, text: &[u8]) {
-    match lex(line.alloc(), part, text) {
-        Ok(lexemes) => match read_type(line.alloc(), text, &lexemes, names) {
-            Ok((tree, next)) => say_node(line, names, type_node(&tree), next),
-            Err(halt) => say_halt(line, halt),
-        },
+fn answer_text(names: &mut Names, line: &mut Line<'_>, word: &str) {
+    let part = line.part();
+    let text = line.bytes();
+    match lex(line.alloc(), part, &text) {
+        Ok(lexemes) if !lexemes.is_empty() && names.len() < MOST => {
+            answer_lexemes(names, line, word, &text, &lexemes)
+        }
+        Ok(_) => line.refuse(),
         Err(halt) => say_halt(line, halt),
     }
 }
 
-// The type that the lexemes of a text begin with.
-fn read_type(
-    alloc: Global,
+fn answer_lexemes(
+    names: &mut Names,
+    line: &mut Line<'_>,
+    word: &str,
     text: &[u8],
     lexemes: &[Lexeme],
-    names: &mut Names,
-) -> Result<(TypeExpr, usize), Halt<SpecFault>>
-    requires { AreOf text.now lexemes.now }
+)
+    requires lexemes { AreOf text.now lexemes.now }
+    requires some { 0 < length lexemes.now }
+    requires names { length names.old < 2 ^ 31 }
 {
-    if lexemes.is_empty() || names.len() > MOST {
-        return Err(Halt::OutOfMemory);
+    match word {
+        "type" => answer_type(names, line, text, lexemes),
+        "pattern" => answer_pattern(names, line, text, lexemes),
+        _ => answer_expr(names, line, text, lexemes),
     }
-    type_of_tokens(alloc, text, lexemes, 0, names)
+}
+
+fn answer_type(names: &mut Names, line: &mut Line<'_>, text: &[u8], lexemes: &[Lexeme])
+    requires lexemes { AreOf text.now lexemes.now }
+    requires some { 0 < length lexemes.now }
+    requires names { length names.old < 2 ^ 31 }
+{
+    match type_of_tokens(line.alloc(), text, lexemes, 0, names) {
+        Ok((tree, next)) => {
+            say_type(line, names, &tree);
+            say_behind(line, names, next);
+        }
+        Err(halt) => say_halt(line, halt),
+    }
+}
+
+fn answer_pattern(names: &mut Names, line: &mut Line<'_>, text: &[u8], lexemes: &[Lexeme])
+    requires lexemes { AreOf text.now lexemes.now }
+    requires some { 0 < length lexemes.now }
+    requires names { length names.old < 2 ^ 31 }
+{
+    match pattern_of_tokens(line.alloc(), text, lexemes, 0, names) {
+        Ok((tree, next)) => {
+            say_pattern(line, names, &tree);
+            say_behind(line, names, next);
+        }
+        Err(halt) => say_halt(line, halt),
+    }
+}
+
+fn answer_expr(names: &mut Names, line: &mut Line<'_>, text: &[u8], lexemes: &[Lexeme])
+    requires lexemes { AreOf text.now lexemes.now }
+    requires some { 0 < length lexemes.now }
+    requires names { length names.old < 2 ^ 31 }
+{
+    match expr_of_tokens(line.alloc(), text, lexemes, 0, names) {
+        Ok((tree, next)) => {
+            say_expr(line, names, &tree);
+            say_behind(line, names, next);
+        }
+        Err(halt) => say_halt(line, halt),
+    }
 }
 
 fn say_halt(line: &mut Line<'_>, halt: Halt<SpecFault>) {
@@ -64,8 +104,8 @@ fn say_halt(line: &mut Line<'_>, halt: Halt<SpecFault>) {
     }
 }
 
-fn say_node(line: &mut Line<'_>, names: &Names, node: Node<'_>, next: usize) {
-    Writer::write(line, names, node);
+// The number of the lexeme behind a tree, and the names that it has.
+fn say_behind(line: &mut Line<'_>, names: &Names, next: usize) {
     line.say(" before ");
     line.say_count(next);
     for number in BUILT_IN..names.len() {

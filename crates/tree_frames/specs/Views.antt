@@ -162,7 +162,7 @@ header_view (in_header.EmptyPatternEnd x0) = pure.empty_pattern_end x0
 
 abbrev pub mode_view : Mode → pure.Mode
 mode_view in_mode.Wants = pure.wants
-mode_view (in_mode.Has x0) = pure.has (view_of x0)
+mode_view (in_mode.Has x0) = pure.has (view_of x0.value)
 mode_view in_mode.WantsPattern = pure.wants_pattern
 mode_view (in_mode.HasPattern x0) = pure.has_pattern (pattern_view x0)
 mode_view (in_mode.Awaits x0) = pure.awaits (header_view x0)

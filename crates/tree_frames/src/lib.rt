@@ -1,6 +1,7 @@
 //! What is open where a tree is built from tokens.
 #![tactic(auto)]
 
+mod boxes;
 mod frame;
 mod header;
 mod lists;
@@ -9,6 +10,7 @@ mod purpose;
 mod stack;
 mod stop;
 
+pub use boxes::boxed;
 pub use frame::Frame;
 pub use header::{Header, TypeNameFor};
 pub use lists::{

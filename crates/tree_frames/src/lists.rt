@@ -8,11 +8,11 @@ use expr_tree::{Bind, Branch, Case, Defined, Expr, FieldValue, Maplet, MapletPat
 use vdm_kinds::OutOfMemory;
 
 /// One expression more.
-pub fn with_expr(items: Vec<Expr>, last: Expr) -> Result<Vec<Expr>, OutOfMemory>
-    ensures { IfOk result (λ all. expr_trees (views_of all.items) ≡ and_expr (expr_trees (views_of items.items)) (view_of last)) }
+pub fn with_expr(items: Vec<Expr>, last: Box<Expr>) -> Result<Vec<Expr>, OutOfMemory>
+    ensures { IfOk result (λ all. expr_trees (views_of all.items) ≡ and_expr (expr_trees (views_of items.items)) (view_of last.value)) }
 {
     let mut items = items;
-    items.push(last)?;
+    items.push(Box::into_inner(last))?;
     Ok(items)
 }
 

@@ -10,7 +10,7 @@ pub enum Mode {
     /// An expression is wanted.
     Wants,
     /// An expression was read.
-    Has(Expr),
+    Has(Box<Expr>),
     /// A pattern is wanted.
     WantsPattern,
     /// A pattern was read.
@@ -19,4 +19,9 @@ pub enum Mode {
     Awaits(Header),
     /// Tokens of a type were read.
     Typing(Vec<Token>),
+}
+
+impl Mode {
+    /// What was read goes.
+    pub fn discard(self) {}
 }

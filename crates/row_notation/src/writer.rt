@@ -13,15 +13,30 @@ use row_words::Line;
 use vdm_kinds::{Name, NameAt, TypeName};
 use vdm_names::Names;
 
-/// What is still to be written, the next last.
+/// Writes a type.
+pub fn say_type(line: &mut Line<'_>, names: &Names, tree: &TypeExpr) {
+    Writer::write(line, names, type_node(tree));
+}
+
+/// Writes a pattern.
+pub fn say_pattern(line: &mut Line<'_>, names: &Names, tree: &Pattern) {
+    Writer::write(line, names, pattern_node(tree));
+}
+
+/// Writes an expression.
+pub fn say_expr(line: &mut Line<'_>, names: &Names, tree: &Expr) {
+    Writer::write(line, names, expr_node(tree));
+}
+
+// What is still to be written, the next last.
 #[derive(Drop)]
-pub(crate) struct Writer<'t> {
+struct Writer<'t> {
     waiting: Vec<Part<'t>>,
 }
 
 impl<'t> Writer<'t> {
-    /// Writes a node.
-    pub(crate) fn write(line: &mut Line<'_>, names: &Names, node: Node<'t>) {
+    // Writes a node.
+    fn write(line: &mut Line<'_>, names: &Names, node: Node<'t>) {
         let mut writer = Writer {
             waiting: Vec::new(line.alloc()),
         };

@@ -1,0 +1,10 @@
+//! Builds the trees that tokens are.
+#![tactic(auto)]
+
+mod build;
+mod ends;
+mod follow;
+mod steps;
+mod taken;
+
+pub use build::{build_expr, build_pattern};

@@ -1,0 +1,135 @@
+// What frames make of an expression that a word ends.
+
+ghost use Rattle.std.specs.Prelude.{◌≡◌, IfOk};
+ghost use Rattle.expr_tree.specs.View.{view_of};
+ghost use Rattle.grammar_trees.specs.Machine.{taken, taken_part, taken_choice, taken_by};
+ghost use Rattle.tree_frames.specs.Views.{frame_view, stop_view, stack_view, state_view};
+
+use expr_parts::{
+    behind_branch, behind_case, behind_definition, behind_field, behind_item, behind_maplet,
+    behind_sequence_set, behind_set, def_value, elseif_test, enclosed, end_condition, end_range,
+    if_test, left_class, let_such, map_key, matched, modified, others_value, right_class, subject,
+    tested, tuple_started, with_definition, with_elseif, with_field, with_value,
+};
+use expr_tree::{Bind, Expr};
+use std::alloc::Global;
+use tree_frames::{popped, Frame, Mode, Stop};
+use vdm_kinds::OutOfMemory;
+
+/// What the innermost frame makes of an expression.
+pub fn taken_by(
+    alloc: Global,
+    tree: Expr,
+    stop: Stop,
+    frames: &mut Vec<Frame>,
+) -> Result<Option<Mode>, OutOfMemory>
+    ensures { IfOk result (λ next. state_view next frames.new.items ≡ taken_by (stack_view frames.old.items) (view_of tree) (stop_view stop)) }
+{
+    match popped(frames) {
+        None => Ok(None),
+        Some(frame) => taken(alloc, frame, tree, stop, frames),
+    }
+}
+
+/// What a frame makes of an expression.
+fn taken(
+    alloc: Global,
+    frame: Frame,
+    tree: Expr,
+    stop: Stop,
+    frames: &mut Vec<Frame>,
+) -> Result<Option<Mode>, OutOfMemory>
+    ensures { IfOk result (λ next. state_view next frames.new.items ≡ taken (frame_view frame) (view_of tree) (stop_view stop) (stack_view frames.old.items)) }
+{
+    match frame {
+        Frame::Enclosed(purpose, place) => enclosed(alloc, purpose, tree, place, stop),
+        Frame::Matched(place) => matched(alloc, tree, place, stop),
+        Frame::Items(listed, items, place) => {
+            behind_item(alloc, listed, items, tree, place, stop, frames)
+        }
+        Frame::TupleStart(place) => tuple_started(alloc, tree, place, stop, frames),
+        Frame::RangeEnd(ranged, first, place) => end_range(alloc, ranged, first, tree, place, stop),
+        Frame::MapKey(maplets, place) => map_key(alloc, maplets, tree, place, stop, frames),
+        Frame::MapValue(maplets, key, place) => {
+            behind_maplet(alloc, maplets, key, tree, place, stop, frames)
+        }
+        Frame::Condition(such, place) => {
+            let tree = Box::new(alloc, tree)?;
+            Ok(end_condition(such, Some(tree), place, stop))
+        }
+        Frame::BindSet(purpose, binds, patterns, place) => {
+            let set = Box::new(alloc, tree)?;
+            behind_set(alloc, purpose, binds, Bind::new(patterns, set), place, stop, frames)
+        }
+        Frame::SequenceSet(item, pattern, place) => {
+            behind_sequence_set(alloc, item, pattern, tree, place, stop, frames)
+        }
+        frame => taken_part(alloc, frame, tree, stop, frames),
+    }
+}
+
+/// What a frame of a test, of fields or of definitions makes of an expression.
+fn taken_part(
+    alloc: Global,
+    frame: Frame,
+    tree: Expr,
+    stop: Stop,
+    frames: &mut Vec<Frame>,
+) -> Result<Option<Mode>, OutOfMemory>
+    ensures { IfOk result (λ next. state_view next frames.new.items ≡ taken_part (frame_view frame) (view_of tree) (stop_view stop) (stack_view frames.old.items)) }
+{
+    match frame {
+        Frame::LeftClass(compared, place) => left_class(alloc, compared, tree, place, stop, frames),
+        Frame::RightClass(compared, left, place) => {
+            right_class(alloc, compared, left, tree, place, stop)
+        }
+        Frame::Tested(place) => tested(alloc, tree, place, stop, frames),
+        Frame::Modified(place) => modified(alloc, tree, place, stop),
+        Frame::FieldValue(target, fields, name, name_place, place) => {
+            let fields = with_field(alloc, fields, name, name_place, tree)?;
+            Ok(behind_field(target, fields, place, stop))
+        }
+        Frame::LetValue(definitions, pattern, declared, place) => {
+            let definitions = with_definition(alloc, definitions, pattern, declared, tree)?;
+            behind_definition(definitions, place, stop, frames)
+        }
+        Frame::LetSuch(bind, place) => let_such(alloc, bind, tree, place, stop, frames),
+        Frame::DefValue(pattern, place) => def_value(alloc, pattern, tree, place, stop, frames),
+        frame => taken_choice(alloc, frame, tree, stop, frames),
+    }
+}
+
+/// What a frame of a choice makes of an expression.
+fn taken_choice(
+    alloc: Global,
+    frame: Frame,
+    tree: Expr,
+    stop: Stop,
+    frames: &mut Vec<Frame>,
+) -> Result<Option<Mode>, OutOfMemory>
+    ensures { IfOk result (λ next. state_view next frames.new.items ≡ taken_choice (frame_view frame) (view_of tree) (stop_view stop) (stack_view frames.old.items)) }
+{
+    match frame {
+        Frame::IfTest(place) => if_test(alloc, tree, place, stop, frames),
+        Frame::IfThen(test, place) => {
+            let value = Box::new(alloc, tree)?;
+            behind_branch(test, value, Vec::new(alloc), place, stop, frames)
+        }
+        Frame::ElseifTest(test, value, elseifs, place) => {
+            elseif_test(alloc, test, value, elseifs, tree, place, stop, frames)
+        }
+        Frame::ElseifThen(test, value, elseifs, next, place) => {
+            let elseifs = with_elseif(alloc, elseifs, next, tree)?;
+            behind_branch(test, value, elseifs, place, stop, frames)
+        }
+        Frame::Subject(place) => subject(alloc, tree, place, stop, frames),
+        Frame::CaseValue(subject, cases, patterns, place) => {
+            let cases = with_value(alloc, cases, patterns, tree)?;
+            behind_case(alloc, subject, cases, place, stop, frames)
+        }
+        Frame::OthersValue(subject, cases, place) => {
+            others_value(alloc, subject, cases, tree, place, stop)
+        }
+        _ => Ok(None),
+    }
+}

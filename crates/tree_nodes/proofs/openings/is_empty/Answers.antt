@@ -1,0 +1,5 @@
+use Rattle.tree_nodes.proofs.Emptiness.{exprs-more}
+use Rattle.tree_nodes.proofs.openings.is_empty.Goals as goal
+
+pub returns-in_default : goal.returns-in_default
+returns-in_default c = exprs-more c.args.items.now c.in_default.len_at_least
