@@ -5,53 +5,44 @@ ghost use Rattle.abstract_syntax.specs.Expressions.{one_expr, no_exprs};
 ghost use Rattle.expr_tree.specs.View.{view_of, expr_trees, views_of};
 ghost use Rattle.grammar_trees.specs.Machine.{in_mode, in_items, empty_curly, empty_square, empty_round, empty_maps_to, dots_behind};
 ghost use Rattle.grammar_trees.specs.Frames.{awaits, comma_then, range_end};
-ghost use Rattle.expr_starts.specs.Emptiness.{is_empty_exprs, IsNotOnly};
+ghost use Rattle.tree_nodes.specs.Emptiness.{IsNotOnly};
 ghost use Rattle.tree_frames.specs.declared.frame.Frame.{Frame as FrameView};
 ghost use Rattle.tree_frames.specs.Views.{listed_view, ranged_view, stack_view, state_view};
 
-use crate::openings::awaiting;
 use expr_tree::Expr;
+use header_steps::read;
 use std::alloc::Global;
-use tree_frames::{Frame, Header, Listed, Mode, Ranged, popped};
+use tree_frames::{Frame, Header, Listed, Mode, Ranged, boxed, popped};
+use tree_nodes::{awaiting, is_empty};
 use vdm_kinds::{OutOfMemory, Place};
 
-/// Whether there is no expression.
-fn is_empty(items: &[Expr]) -> bool
-    ensures { result ≡ is_empty_exprs (expr_trees (views_of items.now)) }
-{
-    match items {
-        [] => true,
-        _ => false,
-    }
-}
-
 /// `}` where an expression is wanted.
-pub fn close_curly(frames: &mut Vec<Frame>) -> Option<Mode>
-    ensures { state_view result frames.new.items ≡ in_items empty_curly (stack_view frames.old.items) }
+pub fn close_curly(alloc: Global, frames: &mut Vec<Frame>) -> Result<Option<Mode>, OutOfMemory>
+    ensures { IfOk result (λ next. state_view next frames.new.items ≡ in_items empty_curly (stack_view frames.old.items)) }
 {
     match popped(frames) {
-        Some(Frame::Items(listed, items, place)) => empty_curly(listed, items, place),
-        _ => None,
+        Some(Frame::Items(listed, items, place)) => empty_curly(alloc, listed, items, place),
+        _ => Ok(None),
     }
 }
 
 /// `]` where an expression is wanted.
-pub fn close_square(frames: &mut Vec<Frame>) -> Option<Mode>
-    ensures { state_view result frames.new.items ≡ in_items empty_square (stack_view frames.old.items) }
+pub fn close_square(alloc: Global, frames: &mut Vec<Frame>) -> Result<Option<Mode>, OutOfMemory>
+    ensures { IfOk result (λ next. state_view next frames.new.items ≡ in_items empty_square (stack_view frames.old.items)) }
 {
     match popped(frames) {
-        Some(Frame::Items(listed, items, place)) => empty_square(listed, items, place),
-        _ => None,
+        Some(Frame::Items(listed, items, place)) => empty_square(alloc, listed, items, place),
+        _ => Ok(None),
     }
 }
 
 /// `)` where an expression is wanted.
-pub fn close_round(frames: &mut Vec<Frame>) -> Option<Mode>
-    ensures { state_view result frames.new.items ≡ in_items empty_round (stack_view frames.old.items) }
+pub fn close_round(alloc: Global, frames: &mut Vec<Frame>) -> Result<Option<Mode>, OutOfMemory>
+    ensures { IfOk result (λ next. state_view next frames.new.items ≡ in_items empty_round (stack_view frames.old.items)) }
 {
     match popped(frames) {
-        Some(Frame::Items(listed, items, place)) => empty_round(listed, items, place),
-        _ => None,
+        Some(Frame::Items(listed, items, place)) => empty_round(alloc, listed, items, place),
+        _ => Ok(None),
     }
 }
 
@@ -76,41 +67,56 @@ pub fn dots(alloc: Global, frames: &mut Vec<Frame>) -> Result<Option<Mode>, OutO
 }
 
 /// The set without an element.
-fn empty_curly(listed: Listed, items: Vec<Expr>, place: Place) -> Option<Mode>
-    ensures { (frames : List FrameView) → state_view result frames ≡ empty_curly (listed_view listed) (expr_trees (views_of items.items)) place (stack_view frames) }
+fn empty_curly(
+    alloc: Global,
+    listed: Listed,
+    items: Vec<Expr>,
+    place: Place,
+) -> Result<Option<Mode>, OutOfMemory>
+    ensures { IfOk result (λ next. (frames : List FrameView) → state_view next frames ≡ empty_curly (listed_view listed) (expr_trees (views_of items.items)) place (stack_view frames)) }
 {
     let empty = is_empty(&items);
     match (listed, empty) {
-        (Listed::SetOf, true) => Some(Mode::Has(Expr::set_enumeration(items, place))),
-        _ => None,
+        (Listed::SetOf, true) => read(alloc, Expr::set_enumeration(items, place)),
+        _ => Ok(None),
     }
 }
 
 /// The sequence without an item.
-fn empty_square(listed: Listed, items: Vec<Expr>, place: Place) -> Option<Mode>
-    ensures { (frames : List FrameView) → state_view result frames ≡ empty_square (listed_view listed) (expr_trees (views_of items.items)) place (stack_view frames) }
+fn empty_square(
+    alloc: Global,
+    listed: Listed,
+    items: Vec<Expr>,
+    place: Place,
+) -> Result<Option<Mode>, OutOfMemory>
+    ensures { IfOk result (λ next. (frames : List FrameView) → state_view next frames ≡ empty_square (listed_view listed) (expr_trees (views_of items.items)) place (stack_view frames)) }
 {
     let empty = is_empty(&items);
     match (listed, empty) {
-        (Listed::SequenceOf, true) => Some(Mode::Has(Expr::sequence_enumeration(items, place))),
-        _ => None,
+        (Listed::SequenceOf, true) => read(alloc, Expr::sequence_enumeration(items, place)),
+        _ => Ok(None),
     }
 }
 
 /// The record without a field, and the call without an argument.
-fn empty_round(listed: Listed, items: Vec<Expr>, place: Place) -> Option<Mode>
-    ensures { (frames : List FrameView) → state_view result frames ≡ empty_round (listed_view listed) (expr_trees (views_of items.items)) place (stack_view frames) }
+fn empty_round(
+    alloc: Global,
+    listed: Listed,
+    items: Vec<Expr>,
+    place: Place,
+) -> Result<Option<Mode>, OutOfMemory>
+    ensures { IfOk result (λ next. (frames : List FrameView) → state_view next frames ≡ empty_round (listed_view listed) (expr_trees (views_of items.items)) place (stack_view frames)) }
 {
     let empty = is_empty(&items);
     match (listed, empty) {
         (Listed::RecordOf(type_name), true) => {
-            Some(Mode::Has(Expr::make_record(type_name, items, place)))
+            read(alloc, Expr::make_record(type_name, items, place))
         }
         (Listed::NewOf(class, class_place), true) => {
-            Some(Mode::Has(Expr::create(class, class_place, items, place)))
+            read(alloc, Expr::create(class, class_place, items, place))
         }
-        (Listed::AppliedTo(head), true) => Some(Mode::Has(Expr::apply(head, items, place))),
-        _ => None,
+        (Listed::AppliedTo(head), true) => read(alloc, Expr::apply(head, items, place)),
+        _ => Ok(None),
     }
 }
 
@@ -137,7 +143,7 @@ fn dots_behind(
     let Some(first) = only(items) else {
         return Ok(None);
     };
-    let first = Box::new(alloc, first)?;
+    let first = boxed(alloc, first)?;
     match listed {
         Listed::SetOf => Ok(range(Ranged::InSet, first, place)),
         Listed::AppliedTo(head) => Ok(range(Ranged::PartOfSequence(head), first, place)),

@@ -7,16 +7,16 @@ ghost use Rattle.expr_tree.specs.View.{view_of, pattern_trees, pattern_views, ca
 ghost use Rattle.grammar_tokens.specs.View.{token_view};
 ghost use Rattle.grammar_trees.specs.Frames.{has_pattern, wants_pattern, pattern_items};
 ghost use Rattle.grammar_trees.specs.Machine.{in_mode, want_pattern, want_pattern_word, want_any, in_pattern_items, empty_pattern_curly, empty_pattern_square, empty_pattern_round, empty_pattern_maps_to, in_cases, others_of};
-ghost use Rattle.expr_starts.specs.Emptiness.{is_empty_patterns, is_empty_cases};
+ghost use Rattle.tree_nodes.specs.Emptiness.{is_empty_patterns, is_empty_cases};
 ghost use Rattle.tree_frames.specs.declared.frame.Frame.{Frame as FrameView};
 ghost use Rattle.tree_frames.specs.Views.{patterns_for_view, stack_view, state_view};
 
-use crate::openings::{awaiting, opened, opened_pattern};
 use expr_tree::{Case, Expr, Literal, Pattern};
 use grammar_tokens::Token;
 use grammar_words::Word;
 use std::alloc::Global;
 use tree_frames::{Frame, Header, Mode, PatternsFor, TypeNameFor, popped};
+use tree_nodes::{awaiting, opened, opened_pattern};
 use vdm_kinds::{OutOfMemory, Place, Sign};
 
 /// A token where a pattern is wanted.
