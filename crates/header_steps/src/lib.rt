@@ -2,8 +2,8 @@
 #![tactic(auto)]
 
 mod names;
-mod read;
+mod nodes;
 mod words;
 
-pub use read::read;
+pub use nodes::read;
 pub use words::awaited;

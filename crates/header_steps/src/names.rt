@@ -6,7 +6,7 @@ ghost use Rattle.grammar_trees.specs.Machine.{in_mode, awaited_name, awaited_num
 ghost use Rattle.tree_frames.specs.declared.frame.Frame.{Frame as FrameView};
 ghost use Rattle.tree_frames.specs.Views.{enclosed_view, header_view, type_name_for_view, stack_view, state_view};
 
-use crate::read::read;
+use crate::nodes::read;
 use expr_tree::Expr;
 use std::alloc::Global;
 use tree_frames::{Enclosed, Frame, Header, Listed, Mode, PatternsFor, TypeNameFor};

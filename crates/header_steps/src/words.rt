@@ -7,7 +7,7 @@ ghost use Rattle.tree_frames.specs.declared.frame.Frame.{Frame as FrameView};
 ghost use Rattle.tree_frames.specs.Views.{header_view, type_name_for_view, stack_view, state_view};
 
 use crate::names::{awaited_name, awaited_number};
-use crate::read::read;
+use crate::nodes::read;
 use expr_tree::{Expr, Pattern};
 use grammar_tokens::Token;
 use grammar_words::Word;
