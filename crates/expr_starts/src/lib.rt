@@ -1,9 +1,12 @@
 //! What a token begins where an expression or a pattern is wanted.
 #![tactic(auto)]
 
+mod cases;
 mod closings;
 mod expressions;
 mod forms;
+mod lists;
+mod pattern_closings;
 mod patterns;
 
 pub use expressions::want;

@@ -1,6 +1,7 @@
 //! How forms go on that begin with single tokens, and a node that is whole.
 #![tactic(auto)]
 
+mod entering;
 mod names;
 mod nodes;
 mod words;

@@ -48,7 +48,10 @@ pub fn awaited_name(
         Header::FieldName(target, fields, at) => {
             Ok(awaiting(Header::FieldArrow(target, fields, name, place, at)))
         }
-        _ => Ok(None),
+        header => {
+            header.discard();
+            Ok(None)
+        }
     }
 }
 
@@ -104,6 +107,9 @@ pub fn awaited_number(
 {
     match header {
         Header::PartOf(target, place) => read(alloc, Expr::select_part(target, number, place)),
-        _ => Ok(None),
+        header => {
+            header.discard();
+            Ok(None)
+        }
     }
 }

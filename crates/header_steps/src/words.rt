@@ -6,6 +6,7 @@ ghost use Rattle.grammar_trees.specs.Machine.{awaited_word, awaited_sign, after_
 ghost use Rattle.tree_frames.specs.declared.frame.Frame.{Frame as FrameView};
 ghost use Rattle.tree_frames.specs.Views.{header_view, type_name_for_view, stack_view, state_view};
 
+use crate::entering::{entered, entered_pattern, is_arrow, is_comma, is_maps_to, is_open, is_st};
 use crate::names::{awaited_name, awaited_number};
 use crate::nodes::read;
 use expr_tree::{Expr, Pattern};
@@ -29,7 +30,10 @@ pub fn awaited(
         Token::Identifier(name, place) => awaited_name(alloc, header, name, place),
         Token::Whole(number, _place) => awaited_number(alloc, header, number),
         Token::Plain(word, _place) => awaited_word(alloc, header, word, frames),
-        _ => Ok(None),
+        _token => {
+            header.discard();
+            Ok(None)
+        }
     }
 }
 
@@ -43,37 +47,19 @@ fn awaited_word(
     ensures { IfOk result (λ next. state_view next frames.new.items ≡ awaited_word (header_view header) word (stack_view frames.old.items)) }
 {
     match header {
-        Header::Opens(frame) => match word {
-            Word::OpenRound => opened(frame, frames),
-            _ => Ok(None),
-        },
-        Header::CommaThen(frame) => match word {
-            Word::Comma => opened(frame, frames),
-            _ => Ok(None),
-        },
-        Header::StThen(frame) => match word {
-            Word::St => opened(frame, frames),
-            _ => Ok(None),
-        },
-        Header::ArrowThen(frame) => match word {
-            Word::Arrow => opened(frame, frames),
-            _ => Ok(None),
-        },
-        Header::OpensPattern(frame) => match word {
-            Word::OpenRound => opened_pattern(frame, frames),
-            _ => Ok(None),
-        },
+        Header::Opens(frame) => entered(is_open(word), frame, frames),
+        Header::CommaThen(frame) => entered(is_comma(word), frame, frames),
+        Header::StThen(frame) => entered(is_st(word), frame, frames),
+        Header::ArrowThen(frame) => entered(is_arrow(word), frame, frames),
+        Header::OpensPattern(frame) => entered_pattern(is_open(word), frame, frames),
         Header::TypeAfter(purpose, name, place) => {
             after_type_name(alloc, word, purpose, name, place, frames)
         }
-        Header::FieldArrow(target, fields, name, name_place, place) => match word {
-            Word::MapsTo => opened(
-                Frame::FieldValue(target, fields, name, name_place, place),
-                frames,
-            ),
-            _ => Ok(None),
-        },
-        _ => awaited_sign(alloc, header, word),
+        Header::FieldArrow(target, fields, name, name_place, place) => {
+            let frame = Frame::FieldValue(target, fields, name, name_place, place);
+            entered(is_maps_to(word), frame, frames)
+        }
+        header => awaited_sign(alloc, header, word),
     }
 }
 
@@ -105,7 +91,10 @@ fn awaited_sign(alloc: Global, header: Header, word: Word) -> Result<Option<Mode
             Word::CloseCurly => Ok(Some(Mode::HasPattern(Pattern::EmptyMap(place)))),
             _ => Ok(None),
         },
-        _ => Ok(None),
+        header => {
+            header.discard();
+            Ok(None)
+        }
     }
 }
 
