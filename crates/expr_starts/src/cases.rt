@@ -7,7 +7,7 @@ ghost use Rattle.tree_nodes.specs.Emptiness.{is_empty_cases};
 ghost use Rattle.tree_frames.specs.declared.frame.Frame.{Frame as FrameView};
 ghost use Rattle.tree_frames.specs.Views.{stack_view, state_view};
 
-use crate::pattern_closings::is_empty;
+use crate::lists::has_no_pattern;
 use expr_tree::{Case, Expr, Pattern};
 use tree_frames::{Frame, Header, Mode, popped};
 use tree_nodes::awaiting;
@@ -38,8 +38,8 @@ fn others_of(
 ) -> Option<Mode>
     ensures { (frames : List FrameView) → state_view result frames ≡ others_of (view_of subject.value) (case_trees (map case_view cases.items)) (pattern_trees (pattern_views patterns.items)) place (stack_view frames) }
 {
-    let first = no_cases(&cases);
-    let empty = is_empty(&patterns);
+    let first = has_no_case(&cases);
+    let empty = has_no_pattern(&patterns);
     match (first, empty) {
         (false, true) => awaiting(Header::ArrowThen(Frame::OthersValue(subject, cases, place))),
         _ => None,
@@ -47,7 +47,7 @@ fn others_of(
 }
 
 /// Whether there is no case.
-fn no_cases(cases: &[Case]) -> bool
+fn has_no_case(cases: &[Case]) -> bool
     ensures { result ≡ is_empty_cases (case_trees (map case_view cases.now)) }
 {
     match cases {
