@@ -38,11 +38,12 @@ fn others_of(
 ) -> Option<Mode>
     ensures { (frames : List FrameView) → state_view result frames ≡ others_of (view_of subject.value) (case_trees (map case_view cases.items)) (pattern_trees (pattern_views patterns.items)) place (stack_view frames) }
 {
-    let first = has_no_case(&cases);
-    let empty = has_no_pattern(&patterns);
-    match (first, empty) {
-        (false, true) => awaiting(Header::ArrowThen(Frame::OthersValue(subject, cases, place))),
-        _ => None,
+    if has_no_case(&cases) {
+        None
+    } else if has_no_pattern(&patterns) {
+        awaiting(Header::ArrowThen(Frame::OthersValue(subject, cases, place)))
+    } else {
+        None
     }
 }
 
