@@ -8,8 +8,8 @@ ghost use Rattle.tree_frames.specs.declared.frame.Frame.{Frame as FrameView};
 ghost use Rattle.tree_frames.specs.Views.{ranged_view, stack_view, state_view};
 
 use crate::lists::{EmptyList, ListOfOne, empty_list, list_of_one};
+use crate::nodes::read;
 use expr_tree::Expr;
-use header_steps::read;
 use std::alloc::Global;
 use tree_frames::{Frame, Header, Listed, Mode, Ranged};
 use tree_nodes::awaiting;

@@ -11,10 +11,10 @@ ghost use Rattle.tree_frames.specs.Views.{stack_view, state_view};
 
 use crate::closings::{close_curly, close_round, close_square, dots, maps_to};
 use crate::forms::want_form;
+use crate::nodes::read;
 use expr_tree::{Expr, Literal};
 use grammar_tokens::Token;
 use grammar_words::Word;
-use header_steps::read;
 use std::alloc::Global;
 use tree_frames::{Enclosed, Frame, Header, Listed, Mode, TypeNameFor};
 use tree_nodes::{awaiting, opened};

@@ -6,6 +6,7 @@ mod closings;
 mod expressions;
 mod forms;
 mod lists;
+mod nodes;
 mod pattern_closings;
 mod patterns;
 

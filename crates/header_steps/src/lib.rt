@@ -1,4 +1,4 @@
-//! How forms go on that begin with single tokens, and a node that is whole.
+//! How forms go on that begin with single tokens.
 #![tactic(auto)]
 
 mod entering;
@@ -6,5 +6,4 @@ mod names;
 mod nodes;
 mod words;
 
-pub use nodes::read;
 pub use words::awaited;
