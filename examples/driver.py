@@ -182,7 +182,7 @@ def name(line, asked):
 
 
 def lexed(line, asked):
-    """lex PART TEXT, places PART TEXT, type PART TEXT"""
+    """lex PART TEXT, places, type, pattern and expression likewise"""
     part, _, text = asked.partition(" ")
     line.put(read(line, part, Reader.part), word_of(text))
 
@@ -466,7 +466,7 @@ REQUESTS = {
     **dict.fromkeys(["take", "refusal", "fault"], number),
     "names": names,
     "name": name,
-    **dict.fromkeys(["lex", "places", "type"], lexed),
+    **dict.fromkeys(["lex", "places", "type", "pattern", "expression"], lexed),
     **dict.fromkeys(["tokens", "spots", "token-names"], tokens),
     **dict.fromkeys(["spec", "accepts"], text),
     "main": main,

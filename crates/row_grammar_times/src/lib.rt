@@ -1,6 +1,7 @@
-//! Answers of rows on how long reading an expression takes.
+//! Answers of rows on how long reading an expression, a pattern or a type takes.
 #![tactic(auto)]
 
+mod reading;
 mod texts;
 mod times;
 

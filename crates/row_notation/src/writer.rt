@@ -1,16 +1,12 @@
 // Writes a tree: a node as its word, and its parts in round brackets with commas between them; a list in square brackets.
 // What is left out is `_`. There is no recursion: what is still to come stands on a stack.
 
-use crate::exprs::expr_node;
-use crate::node::{Node, Part};
-use crate::patterns::pattern_node;
-use crate::types::type_node;
+use crate::leaves::{say_literal, say_name, say_names, say_type_name};
 use expr_tree::{
-    Bind, Branch, Case, Defined, Expr, FieldValue, Literal, Maplet, MapletPattern, Pattern,
-    TypeExpr,
+    Bind, Branch, Case, Defined, Expr, FieldValue, Maplet, MapletPattern, Pattern, TypeExpr,
 };
+use row_nodes::{Node, Part, expr_node, pattern_node, type_node};
 use row_words::Line;
-use vdm_kinds::{Name, NameAt, TypeName};
 use vdm_names::Names;
 
 /// Writes a type.
@@ -281,56 +277,4 @@ impl<'t> Writer<'t> {
             self.comma(line, index);
         }
     }
-}
-
-// The text of a name.
-fn say_name(line: &mut Line<'_>, names: &Names, name: Name) {
-    line.say(names.text(name).unwrap_or(""));
-}
-
-// A name of a type, behind that of its class if it has one.
-fn say_type_name(line: &mut Line<'_>, names: &Names, name: TypeName) {
-    if let Some(class) = name.class {
-        say_name(line, names, class);
-        line.say("`");
-    }
-    say_name(line, names, name.name);
-}
-
-fn say_names(line: &mut Line<'_>, names: &Names, list: &[NameAt]) {
-    for (index, item) in list.iter().enumerate() {
-        if index > 0 {
-            line.say(", ");
-        }
-        say_name(line, names, item.name);
-    }
-}
-
-// A character by its number, and a string by those of its characters.
-fn say_literal(line: &mut Line<'_>, names: &Names, literal: &Literal) {
-    match literal {
-        Literal::Whole(number) => line.show_bare(number),
-        Literal::Character(character) => {
-            line.say("char(");
-            line.say_number(u64::from(u32::from(*character)));
-            line.say(")");
-        }
-        Literal::Text(characters) => say_characters(line, characters),
-        Literal::Quote(name) => {
-            line.say("<");
-            say_name(line, names, *name);
-            line.say(">");
-        }
-        Literal::Bool(truth) => line.say(if *truth { "true" } else { "false" }),
-        Literal::Nil => line.say("nil"),
-    }
-}
-
-fn say_characters(line: &mut Line<'_>, characters: &[char]) {
-    line.say("text(");
-    for (index, character) in characters.iter().enumerate() {
-        line.say_blank(index);
-        line.say_number(u64::from(u32::from(*character)));
-    }
-    line.say(")");
 }

@@ -7,7 +7,7 @@ use expr_tree::Expr;
 use vdm_kinds::Counter;
 
 /// What is written of an expression.
-pub(crate) fn expr_node(tree: &Expr) -> Node<'_> {
+pub fn expr_node(tree: &Expr) -> Node<'_> {
     match tree {
         Expr::Literal(literal, _) => one("", Part::Literal(literal)),
         Expr::Name(name, _) => one("", Part::Name(*name)),

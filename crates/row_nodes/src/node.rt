@@ -8,7 +8,7 @@ use vdm_kinds::{Name, NameAt, TypeName};
 
 /// A part of a node, or what stands between parts.
 #[derive(Clone, Copy)]
-pub(crate) enum Part<'t> {
+pub enum Part<'t> {
     None,
     Text(&'static str),
     Name(Name),
@@ -39,12 +39,12 @@ pub(crate) enum Part<'t> {
 
 /// The word of a node, and its parts; `Part::None` is no part.
 #[derive(Clone, Copy)]
-pub(crate) struct Node<'t> {
-    pub(crate) word: &'static str,
-    pub(crate) first: Part<'t>,
-    pub(crate) second: Part<'t>,
-    pub(crate) third: Part<'t>,
-    pub(crate) fourth: Part<'t>,
+pub struct Node<'t> {
+    pub word: &'static str,
+    pub first: Part<'t>,
+    pub second: Part<'t>,
+    pub third: Part<'t>,
+    pub fourth: Part<'t>,
 }
 
 /// A node without parts.

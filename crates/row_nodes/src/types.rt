@@ -5,7 +5,7 @@ use expr_tree::TypeExpr;
 use vdm_kinds::BasicType;
 
 /// What is written of a type.
-pub(crate) fn type_node(tree: &TypeExpr) -> Node<'_> {
+pub fn type_node(tree: &TypeExpr) -> Node<'_> {
     match tree {
         TypeExpr::Basic(basic, _) => leaf(basic_word(*basic)),
         TypeExpr::Quote(name, _) => one("quote", Part::Name(*name)),

@@ -4,7 +4,7 @@ use crate::node::{Node, Part, leaf, one, two};
 use expr_tree::Pattern;
 
 /// What is written of a pattern.
-pub(crate) fn pattern_node(tree: &Pattern) -> Node<'_> {
+pub fn pattern_node(tree: &Pattern) -> Node<'_> {
     match tree {
         Pattern::AnyValue(_) => leaf("-"),
         Pattern::Bound(name, _) => one("", Part::Name(*name)),
