@@ -10,7 +10,7 @@ ghost use Rattle.tree_frames.specs.Views.{mode_view, stack_view};
 use crate::follow::pulls_more;
 use expr_tree::{Expr, Pattern};
 use std::alloc::Global;
-use tree_frames::{popped, with_pattern, Frame, Mode};
+use tree_frames::{Frame, Mode, popped, with_pattern};
 use tree_nodes::completed;
 use vdm_kinds::OutOfMemory;
 
@@ -32,8 +32,12 @@ pub fn end_expr(
 }
 
 /// The expression that frames end with which go to the right as far as they can.
-fn all_ended(alloc: Global, tree: Expr, frames: &mut Vec<Frame>) -> Result<Expr, OutOfMemory>
-    ensures whole { IfOk result (λ whole. end_expr (view_of whole) (stack_view frames.new.items) ≡ end_expr (view_of tree) (stack_view frames.old.items)) }
+fn all_ended(
+    alloc: Global,
+    tree: Box<Expr>,
+    frames: &mut Vec<Frame>,
+) -> Result<Box<Expr>, OutOfMemory>
+    ensures whole { IfOk result (λ whole. end_expr (view_of whole.value) (stack_view frames.new.items) ≡ end_expr (view_of tree.value) (stack_view frames.old.items)) }
     ensures none { OnOk result (nat_lt 0 (top_pull (stack_view frames.new.items)) ≡ false) }
 {
     let mut tree = tree;
@@ -44,9 +48,9 @@ fn all_ended(alloc: Global, tree: Expr, frames: &mut Vec<Frame>) -> Result<Expr,
 }
 
 /// The expression that the innermost frame ends with, which is taken off.
-fn ended(alloc: Global, tree: Expr, frames: &mut Vec<Frame>) -> Result<Expr, OutOfMemory>
+fn ended(alloc: Global, tree: Box<Expr>, frames: &mut Vec<Frame>) -> Result<Box<Expr>, OutOfMemory>
     requires { nat_lt 0 (top_pull (stack_view frames.old.items)) ≡ true }
-    ensures whole { IfOk result (λ whole. end_expr (view_of whole) (stack_view frames.new.items) ≡ end_expr (view_of tree) (stack_view frames.old.items)) }
+    ensures whole { IfOk result (λ whole. end_expr (view_of whole.value) (stack_view frames.new.items) ≡ end_expr (view_of tree.value) (stack_view frames.old.items)) }
     ensures shorter { OnOk result (length frames.new.items < length frames.old.items) }
 {
     match popped(frames) {
@@ -56,12 +60,12 @@ fn ended(alloc: Global, tree: Expr, frames: &mut Vec<Frame>) -> Result<Expr, Out
 }
 
 /// The expression, where nothing is open.
-fn alone(tree: Expr, frames: &mut Vec<Frame>) -> Option<Expr>
+fn alone(tree: Box<Expr>, frames: &mut Vec<Frame>) -> Option<Expr>
     requires { nat_lt 0 (top_pull (stack_view frames.old.items)) ≡ false }
-    ensures { option_map view_of result ≡ built_expr (end_expr (view_of tree) (stack_view frames.old.items)) }
+    ensures { option_map view_of result ≡ built_expr (end_expr (view_of tree.value) (stack_view frames.old.items)) }
 {
     match popped(frames) {
-        None => Some(tree),
+        None => Some(Box::into_inner(tree)),
         Some(_frame) => None,
     }
 }

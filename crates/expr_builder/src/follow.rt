@@ -15,19 +15,18 @@ use expr_tree::Expr;
 use grammar_tokens::Token;
 use grammar_words::Word;
 use std::alloc::Global;
-use std::mem::replace;
-use tree_frames::{popped, Frame, Header, Listed, Mode};
+use tree_frames::{Frame, Header, Listed, Mode, boxed, popped};
 use tree_nodes::{awaiting, completed, is_infix, opened, pull, stop_of, word_pull};
 use vdm_kinds::{OutOfMemory, Place, Sign};
 
 /// A token behind an expression.
 pub fn follow(
     alloc: Global,
-    tree: Expr,
+    tree: Box<Expr>,
     token: Token,
     frames: &mut Vec<Frame>,
 ) -> Result<Option<Mode>, OutOfMemory>
-    ensures { IfOk result (λ next. state_view next frames.new.items ≡ follow (token_view token) (view_of tree) (stack_view frames.old.items)) }
+    ensures { IfOk result (λ next. state_view next frames.new.items ≡ follow (token_view token) (view_of tree.value) (stack_view frames.old.items)) }
 {
     match token {
         Token::Plain(word, place) => follow_plain(alloc, tree, word, place, frames),
@@ -38,16 +37,16 @@ pub fn follow(
 /// A word behind an expression.
 fn follow_plain(
     alloc: Global,
-    tree: Expr,
+    tree: Box<Expr>,
     word: Word,
     place: Place,
     frames: &mut Vec<Frame>,
 ) -> Result<Option<Mode>, OutOfMemory>
-    ensures { IfOk result (λ next. state_view next frames.new.items ≡ follow_plain word place (view_of tree) (stack_view frames.old.items)) }
+    ensures { IfOk result (λ next. state_view next frames.new.items ≡ follow_plain word place (view_of tree.value) (stack_view frames.old.items)) }
 {
     match word {
-        Word::Backquote => follow_backquote(alloc, tree),
-        Word::Tilde => Ok(follow_tilde(tree)),
+        Word::Backquote => Ok(follow_backquote(tree)),
+        Word::Tilde => follow_tilde(alloc, tree),
         word => {
             let tree = settled(alloc, tree, word, frames)?;
             go_on(alloc, tree, word, place, frames)
@@ -58,11 +57,11 @@ fn follow_plain(
 /// The expression that a word ends: it goes into the frames that pull more than the word.
 fn settled(
     alloc: Global,
-    tree: Expr,
+    tree: Box<Expr>,
     word: Word,
     frames: &mut Vec<Frame>,
-) -> Result<Expr, OutOfMemory>
-    ensures { IfOk result (λ whole. (place : PlaceView) → go_on word place (view_of whole) (stack_view frames.new.items) ≡ follow_word word place (view_of tree) (stack_view frames.old.items)) }
+) -> Result<Box<Expr>, OutOfMemory>
+    ensures { IfOk result (λ whole. (place : PlaceView) → go_on word place (view_of whole.value) (stack_view frames.new.items) ≡ follow_word word place (view_of tree.value) (stack_view frames.old.items)) }
 {
     let mut tree = tree;
     while pulls_more(word_pull(word), frames) {
@@ -74,22 +73,21 @@ fn settled(
 /// What goes on behind an expression.
 fn go_on(
     alloc: Global,
-    tree: Expr,
+    tree: Box<Expr>,
     word: Word,
     place: Place,
     frames: &mut Vec<Frame>,
 ) -> Result<Option<Mode>, OutOfMemory>
-    ensures { IfOk result (λ next. state_view next frames.new.items ≡ go_on word place (view_of tree) (stack_view frames.old.items)) }
+    ensures { IfOk result (λ next. state_view next frames.new.items ≡ go_on word place (view_of tree.value) (stack_view frames.old.items)) }
 {
     match word {
         Word::Operator(sign) => between(alloc, tree, sign, place, frames),
         Word::OpenRound => {
-            let head = Box::new(alloc, tree)?;
-            let listed = Listed::AppliedTo(head);
+            let listed = Listed::AppliedTo(tree);
             opened(Frame::Items(listed, Vec::new(alloc), place), frames)
         }
-        Word::Dot => Ok(awaiting(Header::MemberOf(Box::new(alloc, tree)?, place))),
-        Word::DotNumber => Ok(awaiting(Header::PartOf(Box::new(alloc, tree)?, place))),
+        Word::Dot => Ok(awaiting(Header::MemberOf(tree, place))),
+        Word::DotNumber => Ok(awaiting(Header::PartOf(tree, place))),
         word => taken_by(alloc, tree, stop_of(word), frames),
     }
 }
@@ -97,16 +95,15 @@ fn go_on(
 /// A sign behind an expression.
 fn between(
     alloc: Global,
-    tree: Expr,
+    tree: Box<Expr>,
     sign: Sign,
     place: Place,
     frames: &mut Vec<Frame>,
 ) -> Result<Option<Mode>, OutOfMemory>
-    ensures { IfOk result (λ next. state_view next frames.new.items ≡ between (is_infix sign) (view_of tree) sign place (stack_view frames.old.items)) }
+    ensures { IfOk result (λ next. state_view next frames.new.items ≡ between (is_infix sign) (view_of tree.value) sign place (stack_view frames.old.items)) }
 {
     if is_infix(sign) {
-        let left = Box::new(alloc, tree)?;
-        opened(Frame::RightOf(left, sign, place), frames)
+        opened(Frame::RightOf(tree, sign, place), frames)
     } else {
         Ok(None)
     }
@@ -125,12 +122,12 @@ pub fn pulls_more(pull_behind: u32, frames: &[Frame]) -> bool
 /// The expression that the innermost frame ends with, which is taken off.
 fn with_frame(
     alloc: Global,
-    tree: Expr,
+    tree: Box<Expr>,
     word: Word,
     frames: &mut Vec<Frame>,
-) -> Result<Expr, OutOfMemory>
+) -> Result<Box<Expr>, OutOfMemory>
     requires { nat_lt (word_pull word) (top_pull (stack_view frames.old.items)) ≡ true }
-    ensures whole { IfOk result (λ whole. (place : PlaceView) → follow_word word place (view_of whole) (stack_view frames.new.items) ≡ follow_word word place (view_of tree) (stack_view frames.old.items)) }
+    ensures whole { IfOk result (λ whole. (place : PlaceView) → follow_word word place (view_of whole.value) (stack_view frames.new.items) ≡ follow_word word place (view_of tree.value) (stack_view frames.old.items)) }
     ensures shorter { OnOk result (length frames.new.items < length frames.old.items) }
 {
     match popped(frames) {
@@ -140,28 +137,24 @@ fn with_frame(
 }
 
 /// A backquote behind an expression: a name or a member goes on.
-fn follow_backquote(alloc: Global, tree: Expr) -> Result<Option<Mode>, OutOfMemory>
-    ensures { IfOk result (λ next. (frames : List FrameView) → state_view next frames ≡ follow_backquote (view_of tree) (stack_view frames)) }
+fn follow_backquote(tree: Box<Expr>) -> Option<Mode>
+    ensures { (frames : List FrameView) → state_view result frames ≡ follow_backquote (view_of tree.value) (stack_view frames) }
 {
-    let mut tree = tree;
-    match &mut tree {
-        Expr::Name(name, place) => Ok(awaiting(Header::QualifiedRest(*name, *place))),
+    match Box::into_inner(tree) {
+        Expr::Name(name, place) => awaiting(Header::QualifiedRest(name, place)),
         Expr::Select(target, name, name_place, place) => {
-            // What stands before the `.` is taken out of the tree, which goes.
-            let rest = Box::new(alloc, Expr::Time(*place))?;
-            let target = replace(target, rest);
-            Ok(awaiting(Header::MemberRest(target, *name, *name_place, *place)))
+            awaiting(Header::MemberRest(target, name, name_place, place))
         }
-        _ => Ok(None),
+        _ => None,
     }
 }
 
 /// A `~` behind an expression: the value of a name before the call.
-fn follow_tilde(tree: Expr) -> Option<Mode>
-    ensures { (frames : List FrameView) → state_view result frames ≡ follow_tilde (view_of tree) (stack_view frames) }
+fn follow_tilde(alloc: Global, tree: Box<Expr>) -> Result<Option<Mode>, OutOfMemory>
+    ensures { IfOk result (λ next. (frames : List FrameView) → state_view next frames ≡ follow_tilde (view_of tree.value) (stack_view frames)) }
 {
-    match &tree {
-        Expr::Name(name, place) => Some(Mode::Has(Expr::old(*name, *place))),
-        _ => None,
+    match Box::into_inner(tree) {
+        Expr::Name(name, place) => Ok(Some(Mode::Has(boxed(alloc, Expr::old(name, place))?))),
+        _ => Ok(None),
     }
 }

@@ -13,17 +13,17 @@ use expr_parts::{
 };
 use expr_tree::{Bind, Expr};
 use std::alloc::Global;
-use tree_frames::{popped, Frame, Mode, Stop};
+use tree_frames::{Frame, Mode, Stop, popped};
 use vdm_kinds::OutOfMemory;
 
 /// What the innermost frame makes of an expression.
 pub fn taken_by(
     alloc: Global,
-    tree: Expr,
+    tree: Box<Expr>,
     stop: Stop,
     frames: &mut Vec<Frame>,
 ) -> Result<Option<Mode>, OutOfMemory>
-    ensures { IfOk result (λ next. state_view next frames.new.items ≡ taken_by (stack_view frames.old.items) (view_of tree) (stop_view stop)) }
+    ensures { IfOk result (λ next. state_view next frames.new.items ≡ taken_by (stack_view frames.old.items) (view_of tree.value) (stop_view stop)) }
 {
     match popped(frames) {
         None => Ok(None),
@@ -35,31 +35,35 @@ pub fn taken_by(
 fn taken(
     alloc: Global,
     frame: Frame,
-    tree: Expr,
+    tree: Box<Expr>,
     stop: Stop,
     frames: &mut Vec<Frame>,
 ) -> Result<Option<Mode>, OutOfMemory>
-    ensures { IfOk result (λ next. state_view next frames.new.items ≡ taken (frame_view frame) (view_of tree) (stop_view stop) (stack_view frames.old.items)) }
+    ensures { IfOk result (λ next. state_view next frames.new.items ≡ taken (frame_view frame) (view_of tree.value) (stop_view stop) (stack_view frames.old.items)) }
 {
     match frame {
         Frame::Enclosed(purpose, place) => enclosed(alloc, purpose, tree, place, stop),
-        Frame::Matched(place) => matched(alloc, tree, place, stop),
+        Frame::Matched(place) => matched(tree, place, stop),
         Frame::Items(listed, items, place) => {
             behind_item(alloc, listed, items, tree, place, stop, frames)
         }
         Frame::TupleStart(place) => tuple_started(alloc, tree, place, stop, frames),
         Frame::RangeEnd(ranged, first, place) => end_range(alloc, ranged, first, tree, place, stop),
-        Frame::MapKey(maplets, place) => map_key(alloc, maplets, tree, place, stop, frames),
+        Frame::MapKey(maplets, place) => map_key(maplets, tree, place, stop, frames),
         Frame::MapValue(maplets, key, place) => {
             behind_maplet(alloc, maplets, key, tree, place, stop, frames)
         }
-        Frame::Condition(such, place) => {
-            let tree = Box::new(alloc, tree)?;
-            Ok(end_condition(such, Some(tree), place, stop))
-        }
+        Frame::Condition(such, place) => end_condition(alloc, such, Some(tree), place, stop),
         Frame::BindSet(purpose, binds, patterns, place) => {
-            let set = Box::new(alloc, tree)?;
-            behind_set(alloc, purpose, binds, Bind::new(patterns, set), place, stop, frames)
+            behind_set(
+                alloc,
+                purpose,
+                binds,
+                Bind::new(patterns, tree),
+                place,
+                stop,
+                frames,
+            )
         }
         Frame::SequenceSet(item, pattern, place) => {
             behind_sequence_set(alloc, item, pattern, tree, place, stop, frames)
@@ -72,29 +76,29 @@ fn taken(
 fn taken_part(
     alloc: Global,
     frame: Frame,
-    tree: Expr,
+    tree: Box<Expr>,
     stop: Stop,
     frames: &mut Vec<Frame>,
 ) -> Result<Option<Mode>, OutOfMemory>
-    ensures { IfOk result (λ next. state_view next frames.new.items ≡ taken_part (frame_view frame) (view_of tree) (stop_view stop) (stack_view frames.old.items)) }
+    ensures { IfOk result (λ next. state_view next frames.new.items ≡ taken_part (frame_view frame) (view_of tree.value) (stop_view stop) (stack_view frames.old.items)) }
 {
     match frame {
-        Frame::LeftClass(compared, place) => left_class(alloc, compared, tree, place, stop, frames),
+        Frame::LeftClass(compared, place) => left_class(compared, tree, place, stop, frames),
         Frame::RightClass(compared, left, place) => {
             right_class(alloc, compared, left, tree, place, stop)
         }
         Frame::Tested(place) => tested(alloc, tree, place, stop, frames),
         Frame::Modified(place) => modified(alloc, tree, place, stop),
         Frame::FieldValue(target, fields, name, name_place, place) => {
-            let fields = with_field(alloc, fields, name, name_place, tree)?;
-            Ok(behind_field(target, fields, place, stop))
+            let fields = with_field(fields, name, name_place, tree)?;
+            behind_field(alloc, target, fields, place, stop)
         }
         Frame::LetValue(definitions, pattern, declared, place) => {
-            let definitions = with_definition(alloc, definitions, pattern, declared, tree)?;
+            let definitions = with_definition(definitions, pattern, declared, tree)?;
             behind_definition(definitions, place, stop, frames)
         }
-        Frame::LetSuch(bind, place) => let_such(alloc, bind, tree, place, stop, frames),
-        Frame::DefValue(pattern, place) => def_value(alloc, pattern, tree, place, stop, frames),
+        Frame::LetSuch(bind, place) => let_such(bind, tree, place, stop, frames),
+        Frame::DefValue(pattern, place) => def_value(pattern, tree, place, stop, frames),
         frame => taken_choice(alloc, frame, tree, stop, frames),
     }
 }
@@ -103,28 +107,27 @@ fn taken_part(
 fn taken_choice(
     alloc: Global,
     frame: Frame,
-    tree: Expr,
+    tree: Box<Expr>,
     stop: Stop,
     frames: &mut Vec<Frame>,
 ) -> Result<Option<Mode>, OutOfMemory>
-    ensures { IfOk result (λ next. state_view next frames.new.items ≡ taken_choice (frame_view frame) (view_of tree) (stop_view stop) (stack_view frames.old.items)) }
+    ensures { IfOk result (λ next. state_view next frames.new.items ≡ taken_choice (frame_view frame) (view_of tree.value) (stop_view stop) (stack_view frames.old.items)) }
 {
     match frame {
-        Frame::IfTest(place) => if_test(alloc, tree, place, stop, frames),
+        Frame::IfTest(place) => if_test(tree, place, stop, frames),
         Frame::IfThen(test, place) => {
-            let value = Box::new(alloc, tree)?;
-            behind_branch(test, value, Vec::new(alloc), place, stop, frames)
+            behind_branch(test, tree, Vec::new(alloc), place, stop, frames)
         }
         Frame::ElseifTest(test, value, elseifs, place) => {
-            elseif_test(alloc, test, value, elseifs, tree, place, stop, frames)
+            elseif_test(test, value, elseifs, tree, place, stop, frames)
         }
         Frame::ElseifThen(test, value, elseifs, next, place) => {
-            let elseifs = with_elseif(alloc, elseifs, next, tree)?;
+            let elseifs = with_elseif(elseifs, next, tree)?;
             behind_branch(test, value, elseifs, place, stop, frames)
         }
         Frame::Subject(place) => subject(alloc, tree, place, stop, frames),
         Frame::CaseValue(subject, cases, patterns, place) => {
-            let cases = with_value(alloc, cases, patterns, tree)?;
+            let cases = with_value(cases, patterns, tree)?;
             behind_case(alloc, subject, cases, place, stop, frames)
         }
         Frame::OthersValue(subject, cases, place) => {

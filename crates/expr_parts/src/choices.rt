@@ -7,7 +7,7 @@ ghost use Rattle.tree_frames.specs.Views.{stop_view, stack_view, state_view};
 
 use expr_tree::{Branch, Case, Expr};
 use std::alloc::Global;
-use tree_frames::{Body, Frame, Mode, Stop};
+use tree_frames::{Body, Frame, Mode, Stop, boxed};
 use tree_nodes::{opened, opened_pattern};
 use vdm_kinds::{OutOfMemory, Place};
 
@@ -45,7 +45,10 @@ pub fn behind_case(
             let frame = Frame::CasePatterns(subject, cases, Vec::new(alloc), place);
             opened_pattern(frame, frames)
         }
-        Stop::End => Ok(Some(Mode::Has(Expr::cases(subject, cases, None, place)))),
+        Stop::End => {
+            let tree = boxed(alloc, Expr::cases(subject, cases, None, place))?;
+            Ok(Some(Mode::Has(tree)))
+        }
         _ => Ok(None),
     }
 }

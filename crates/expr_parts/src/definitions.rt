@@ -11,7 +11,7 @@ ghost use Rattle.tree_frames.specs.Views.{binds_for_view, body_view, stop_view, 
 use crate::collections::end_condition;
 use expr_tree::{Bind, Defined, Expr, FieldValue, Pattern};
 use std::alloc::Global;
-use tree_frames::{BindsFor, Body, Conditioned, Frame, Header, Mode, Stop, with_bind};
+use tree_frames::{BindsFor, Body, Conditioned, Frame, Header, Mode, Stop, boxed, with_bind};
 use tree_nodes::{awaiting, opened, opened_pattern};
 use vdm_kinds::{OutOfMemory, Place};
 
@@ -83,7 +83,13 @@ fn behind_set_binds(
             Frame::Condition(Conditioned::SetSuch(element, binds), place),
             frames,
         ),
-        _ => Ok(end_condition(Conditioned::SetSuch(element, binds), None, place, stop)),
+        _ => end_condition(
+            alloc,
+            Conditioned::SetSuch(element, binds),
+            None,
+            place,
+            stop,
+        ),
     }
 }
 
@@ -105,7 +111,13 @@ fn behind_map_binds(
             Frame::Condition(Conditioned::MapSuch(key, value, binds), place),
             frames,
         ),
-        _ => Ok(end_condition(Conditioned::MapSuch(key, value, binds), None, place, stop)),
+        _ => end_condition(
+            alloc,
+            Conditioned::MapSuch(key, value, binds),
+            None,
+            place,
+            stop,
+        ),
     }
 }
 
@@ -179,34 +191,37 @@ pub fn behind_sequence_set(
     alloc: Global,
     item: Box<Expr>,
     pattern: Box<Pattern>,
-    set: Expr,
+    set: Box<Expr>,
     place: Place,
     stop: Stop,
     frames: &mut Vec<Frame>,
 ) -> Result<Option<Mode>, OutOfMemory>
-    ensures { IfOk result (λ next. state_view next frames.new.items ≡ behind_sequence_set (view_of item.value) (pattern_view pattern.value) (view_of set) place (stop_view stop) (stack_view frames.old.items)) }
+    ensures { IfOk result (λ next. state_view next frames.new.items ≡ behind_sequence_set (view_of item.value) (pattern_view pattern.value) (view_of set.value) place (stop_view stop) (stack_view frames.old.items)) }
 {
-    let set = Box::new(alloc, set)?;
     let such = Conditioned::SequenceSuch(item, pattern, set);
     match stop {
         Stop::Ampersand => opened(Frame::Condition(such, place), frames),
-        _ => Ok(end_condition(such, None, place, stop)),
+        _ => end_condition(alloc, such, None, place, stop),
     }
 }
 
 /// Behind the value of a field.
 pub fn behind_field(
+    alloc: Global,
     target: Box<Expr>,
     fields: Vec<FieldValue>,
     place: Place,
     stop: Stop,
-) -> Option<Mode>
-    ensures { (frames : List FrameView) → state_view result frames ≡ behind_field (view_of target.value) (field_value_trees (map field_value_view fields.items)) place (stop_view stop) (stack_view frames) }
+) -> Result<Option<Mode>, OutOfMemory>
+    ensures { IfOk result (λ next. (frames : List FrameView) → state_view next frames ≡ behind_field (view_of target.value) (field_value_trees (map field_value_view fields.items)) place (stop_view stop) (stack_view frames)) }
 {
     match stop {
-        Stop::Comma => awaiting(Header::FieldName(target, fields, place)),
-        Stop::CloseRound => Some(Mode::Has(Expr::modify_record(target, fields, place))),
-        _ => None,
+        Stop::Comma => Ok(awaiting(Header::FieldName(target, fields, place))),
+        Stop::CloseRound => {
+            let tree = boxed(alloc, Expr::modify_record(target, fields, place))?;
+            Ok(Some(Mode::Has(tree)))
+        }
+        _ => Ok(None),
     }
 }
 
