@@ -15,6 +15,7 @@ use expr_tree::Expr;
 use grammar_tokens::Token;
 use grammar_words::Word;
 use std::alloc::Global;
+use std::mem::replace;
 use tree_frames::{Frame, Header, Listed, Mode, boxed, popped};
 use tree_nodes::{awaiting, completed, is_infix, opened, pull, stop_of, word_pull};
 use vdm_kinds::{OutOfMemory, Place, Sign};
@@ -45,7 +46,7 @@ fn follow_plain(
     ensures { IfOk result (λ next. state_view next frames.new.items ≡ follow_plain word place (view_of tree.value) (stack_view frames.old.items)) }
 {
     match word {
-        Word::Backquote => Ok(follow_backquote(tree)),
+        Word::Backquote => follow_backquote(alloc, tree),
         Word::Tilde => follow_tilde(alloc, tree),
         word => {
             let tree = settled(alloc, tree, word, frames)?;
@@ -137,15 +138,18 @@ fn with_frame(
 }
 
 /// A backquote behind an expression: a name or a member goes on.
-fn follow_backquote(tree: Box<Expr>) -> Option<Mode>
-    ensures { (frames : List FrameView) → state_view result frames ≡ follow_backquote (view_of tree.value) (stack_view frames) }
+fn follow_backquote(alloc: Global, tree: Box<Expr>) -> Result<Option<Mode>, OutOfMemory>
+    ensures { IfOk result (λ next. (frames : List FrameView) → state_view next frames ≡ follow_backquote (view_of tree.value) (stack_view frames)) }
 {
-    match Box::into_inner(tree) {
-        Expr::Name(name, place) => awaiting(Header::QualifiedRest(name, place)),
+    let mut tree = tree;
+    match tree.as_mut() {
+        Expr::Name(name, place) => Ok(awaiting(Header::QualifiedRest(*name, *place))),
         Expr::Select(target, name, name_place, place) => {
-            awaiting(Header::MemberRest(target, name, name_place, place))
+            // What stands before the `.` is taken out of the tree, which goes.
+            let target = replace(target, boxed(alloc, Expr::Time(*place))?);
+            Ok(awaiting(Header::MemberRest(target, *name, *name_place, *place)))
         }
-        _ => None,
+        _ => Ok(None),
     }
 }
 
@@ -153,8 +157,8 @@ fn follow_backquote(tree: Box<Expr>) -> Option<Mode>
 fn follow_tilde(alloc: Global, tree: Box<Expr>) -> Result<Option<Mode>, OutOfMemory>
     ensures { IfOk result (λ next. (frames : List FrameView) → state_view next frames ≡ follow_tilde (view_of tree.value) (stack_view frames)) }
 {
-    match Box::into_inner(tree) {
-        Expr::Name(name, place) => Ok(Some(Mode::Has(boxed(alloc, Expr::old(name, place))?))),
+    match tree.as_ref() {
+        Expr::Name(name, place) => Ok(Some(Mode::Has(boxed(alloc, Expr::old(*name, *place))?))),
         _ => Ok(None),
     }
 }
