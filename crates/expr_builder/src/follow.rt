@@ -1,23 +1,22 @@
 // What follows an expression.
 
-ghost use Rattle.std.specs.Prelude.{◌≡◌, ◌<◌, List, true, nat_lt, length, IfOk, OnOk};
-ghost use Rattle.vdm_kinds.specs.declared.place.Place.{Place as PlaceView};
-ghost use Rattle.grammar_words.specs.Pulls.{is_infix};
-ghost use Rattle.expr_builder.specs.Tops.{top_pull};
-ghost use Rattle.tree_frames.specs.declared.frame.Frame.{Frame as FrameView};
+ghost use Rattle.std.specs.Prelude.{◌≡◌, List, IfOk};
 ghost use Rattle.expr_tree.specs.View.{view_of};
 ghost use Rattle.grammar_tokens.specs.View.{token_view};
-ghost use Rattle.grammar_trees.specs.Machine.{follow, follow_plain, follow_word, follow_backquote, follow_tilde, go_on, word_pull, between};
+ghost use Rattle.grammar_words.specs.Pulls.{is_infix};
+ghost use Rattle.grammar_trees.specs.Machine.{follow, follow_plain, follow_word, follow_backquote, follow_tilde, go_on, between};
+ghost use Rattle.tree_frames.specs.declared.frame.Frame.{Frame as FrameView};
 ghost use Rattle.tree_frames.specs.Views.{stack_view, state_view};
 
+use crate::settling::settled;
 use crate::taken::taken_by;
 use expr_tree::Expr;
 use grammar_tokens::Token;
 use grammar_words::Word;
 use std::alloc::Global;
 use std::mem::replace;
-use tree_frames::{Frame, Header, Listed, Mode, boxed, popped};
-use tree_nodes::{awaiting, completed, is_infix, opened, pull, stop_of, word_pull};
+use tree_frames::{Frame, Header, Listed, Mode, boxed};
+use tree_nodes::{awaiting, is_infix, opened, stop_of, word_pull};
 use vdm_kinds::{OutOfMemory, Place, Sign};
 
 /// A token behind an expression.
@@ -48,27 +47,22 @@ fn follow_plain(
     match word {
         Word::Backquote => follow_backquote(alloc, tree),
         Word::Tilde => follow_tilde(alloc, tree),
-        word => {
-            let tree = settled(alloc, tree, word, frames)?;
-            go_on(alloc, tree, word, place, frames)
-        }
+        word => follow_word(alloc, tree, word, place, frames),
     }
 }
 
-/// The expression that a word ends: it goes into the frames that pull more than the word.
-fn settled(
+/// A word that ends the expression before it, or goes on with it: first the frames end that pull more than the word.
+fn follow_word(
     alloc: Global,
     tree: Box<Expr>,
     word: Word,
+    place: Place,
     frames: &mut Vec<Frame>,
-) -> Result<Box<Expr>, OutOfMemory>
-    ensures { IfOk result (λ whole. (place : PlaceView) → go_on word place (view_of whole.value) (stack_view frames.new.items) ≡ follow_word word place (view_of tree.value) (stack_view frames.old.items)) }
+) -> Result<Option<Mode>, OutOfMemory>
+    ensures { IfOk result (λ next. state_view next frames.new.items ≡ follow_word word place (view_of tree.value) (stack_view frames.old.items)) }
 {
-    let mut tree = tree;
-    while pulls_more(word_pull(word), frames) {
-        tree = with_frame(alloc, tree, word, frames)?;
-    }
-    Ok(tree)
+    let tree = settled(alloc, word_pull(word), tree, frames)?;
+    go_on(alloc, tree, word, place, frames)
 }
 
 /// What goes on behind an expression.
@@ -107,33 +101,6 @@ fn between(
         opened(Frame::RightOf(tree, sign, place), frames)
     } else {
         Ok(None)
-    }
-}
-
-/// Whether the innermost frame pulls more at an expression than a word behind it.
-pub fn pulls_more(pull_behind: u32, frames: &[Frame]) -> bool
-    ensures { result ≡ nat_lt pull_behind (top_pull (stack_view frames.now)) }
-{
-    match frames.last() {
-        None => false,
-        Some(frame) => pull_behind < pull(frame),
-    }
-}
-
-/// The expression that the innermost frame ends with, which is taken off.
-fn with_frame(
-    alloc: Global,
-    tree: Box<Expr>,
-    word: Word,
-    frames: &mut Vec<Frame>,
-) -> Result<Box<Expr>, OutOfMemory>
-    requires { nat_lt (word_pull word) (top_pull (stack_view frames.old.items)) ≡ true }
-    ensures whole { IfOk result (λ whole. (place : PlaceView) → follow_word word place (view_of whole.value) (stack_view frames.new.items) ≡ follow_word word place (view_of tree.value) (stack_view frames.old.items)) }
-    ensures shorter { OnOk result (length frames.new.items < length frames.old.items) }
-{
-    match popped(frames) {
-        Some(frame) => completed(alloc, frame, tree),
-        None => unreachable!(),
     }
 }
 

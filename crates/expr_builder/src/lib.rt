@@ -4,6 +4,7 @@
 mod build;
 mod ends;
 mod follow;
+mod settling;
 mod steps;
 mod taken;
 

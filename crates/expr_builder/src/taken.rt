@@ -7,13 +7,14 @@ ghost use Rattle.tree_frames.specs.Views.{frame_view, stop_view, stack_view, sta
 
 use expr_parts::{
     behind_branch, behind_case, behind_definition, behind_field, behind_item, behind_maplet,
-    behind_sequence_set, behind_set, def_value, elseif_test, enclosed, end_condition, end_range,
-    if_test, left_class, let_such, map_key, matched, modified, others_value, right_class, subject,
-    tested, tuple_started, with_definition, with_elseif, with_field, with_value,
+    behind_sequence_set, behind_set, enclosed, end_condition, end_range, matched, modified,
+    opened_at, right_class, subject, tested, tuple_started, whole_at,
 };
-use expr_tree::{Bind, Expr};
+use expr_tree::{Bind, Branch, Case, Defined, Expr, FieldValue};
 use std::alloc::Global;
-use tree_frames::{Frame, Mode, Stop, popped};
+use tree_frames::{
+    Body, Frame, Mode, Stop, boxed, popped, with_branch, with_case, with_defined, with_field_value,
+};
 use vdm_kinds::OutOfMemory;
 
 /// What the innermost frame makes of an expression.
@@ -43,13 +44,20 @@ fn taken(
 {
     match frame {
         Frame::Enclosed(purpose, place) => enclosed(alloc, purpose, tree, place, stop),
-        Frame::Matched(place) => matched(tree, place, stop),
+        Frame::Matched(place) => Ok(matched(tree, place, stop)),
         Frame::Items(listed, items, place) => {
             behind_item(alloc, listed, items, tree, place, stop, frames)
         }
         Frame::TupleStart(place) => tuple_started(alloc, tree, place, stop, frames),
         Frame::RangeEnd(ranged, first, place) => end_range(alloc, ranged, first, tree, place, stop),
-        Frame::MapKey(maplets, place) => map_key(maplets, tree, place, stop, frames),
+        Frame::MapKey(maplets, place) => {
+            opened_at(
+                Stop::MapsTo,
+                Frame::MapValue(maplets, tree, place),
+                stop,
+                frames,
+            )
+        }
         Frame::MapValue(maplets, key, place) => {
             behind_maplet(alloc, maplets, key, tree, place, stop, frames)
         }
@@ -83,22 +91,39 @@ fn taken_part(
     ensures { IfOk result (λ next. state_view next frames.new.items ≡ taken_part (frame_view frame) (view_of tree.value) (stop_view stop) (stack_view frames.old.items)) }
 {
     match frame {
-        Frame::LeftClass(compared, place) => left_class(compared, tree, place, stop, frames),
+        Frame::LeftClass(compared, place) => {
+            opened_at(
+                Stop::Comma,
+                Frame::RightClass(compared, tree, place),
+                stop,
+                frames,
+            )
+        }
         Frame::RightClass(compared, left, place) => {
             right_class(alloc, compared, left, tree, place, stop)
         }
         Frame::Tested(place) => tested(alloc, tree, place, stop, frames),
-        Frame::Modified(place) => modified(alloc, tree, place, stop),
+        Frame::Modified(place) => Ok(modified(alloc, tree, place, stop)),
         Frame::FieldValue(target, fields, name, name_place, place) => {
-            let fields = with_field(fields, name, name_place, tree)?;
+            let fields = with_field_value(fields, FieldValue::new(name, name_place, tree))?;
             behind_field(alloc, target, fields, place, stop)
         }
         Frame::LetValue(definitions, pattern, declared, place) => {
-            let definitions = with_definition(definitions, pattern, declared, tree)?;
+            let definitions = with_defined(definitions, Defined::new(pattern, declared, tree))?;
             behind_definition(definitions, place, stop, frames)
         }
-        Frame::LetSuch(bind, place) => let_such(bind, tree, place, stop, frames),
-        Frame::DefValue(pattern, place) => def_value(pattern, tree, place, stop, frames),
+        Frame::LetSuch(bind, place) => {
+            let frame = Frame::Body(Body::Such(bind, Some(tree)), place);
+            opened_at(Stop::In, frame, stop, frames)
+        }
+        Frame::DefValue(pattern, place) => {
+            opened_at(
+                Stop::In,
+                Frame::Body(Body::Def(pattern, tree), place),
+                stop,
+                frames,
+            )
+        }
         frame => taken_choice(alloc, frame, tree, stop, frames),
     }
 }
@@ -114,24 +139,26 @@ fn taken_choice(
     ensures { IfOk result (λ next. state_view next frames.new.items ≡ taken_choice (frame_view frame) (view_of tree.value) (stop_view stop) (stack_view frames.old.items)) }
 {
     match frame {
-        Frame::IfTest(place) => if_test(tree, place, stop, frames),
+        Frame::IfTest(place) => opened_at(Stop::Then, Frame::IfThen(tree, place), stop, frames),
         Frame::IfThen(test, place) => {
             behind_branch(test, tree, Vec::new(alloc), place, stop, frames)
         }
         Frame::ElseifTest(test, value, elseifs, place) => {
-            elseif_test(test, value, elseifs, tree, place, stop, frames)
+            let frame = Frame::ElseifThen(test, value, elseifs, tree, place);
+            opened_at(Stop::Then, frame, stop, frames)
         }
         Frame::ElseifThen(test, value, elseifs, next, place) => {
-            let elseifs = with_elseif(elseifs, next, tree)?;
+            let elseifs = with_branch(elseifs, Branch::new(next, tree))?;
             behind_branch(test, value, elseifs, place, stop, frames)
         }
         Frame::Subject(place) => subject(alloc, tree, place, stop, frames),
         Frame::CaseValue(subject, cases, patterns, place) => {
-            let cases = with_value(cases, patterns, tree)?;
+            let cases = with_case(cases, Case::new(patterns, tree))?;
             behind_case(alloc, subject, cases, place, stop, frames)
         }
         Frame::OthersValue(subject, cases, place) => {
-            others_value(alloc, subject, cases, tree, place, stop)
+            let tree = boxed(alloc, Expr::cases(subject, cases, Some(tree), place))?;
+            Ok(whole_at(Stop::End, tree, stop))
         }
         _ => Ok(None),
     }

@@ -1,14 +1,16 @@
-// Lists, ranges, maps and comprehensions, behind an expression.
+// Lists, ranges and maps, behind an expression.
 
-ghost use Rattle.std.specs.Prelude.{◌≡◌, if◌then◌else◌, List, IfOk, map};
+ghost use Rattle.std.specs.Prelude.{◌≡◌, List, IfOk, map};
 ghost use Rattle.expr_tree.specs.View.{view_of, views_of, expr_trees, maplet_trees, maplet_view, maybe_view};
-ghost use Rattle.grammar_trees.specs.Lists.{and_expr};
-ghost use Rattle.grammar_trees.specs.Machine.{in_mode, no_tree, closes_list, whole_list, behind_first, behind_item, end_range, behind_maplet, end_condition};
+ghost use Rattle.expr_parts.specs.At.{at};
 ghost use Rattle.grammar_trees.specs.Frames.{State, has};
-ghost use Rattle.tree_nodes.specs.Emptiness.{is_empty_exprs, is_empty_maplets};
+ghost use Rattle.grammar_trees.specs.Machine.{bar, in_mode, closes_list, whole_list, behind_first, behind_item, end_range, behind_maplet, end_condition};
+ghost use Rattle.grammar_trees.specs.Machine.{Stop as StopView};
+ghost use Rattle.tree_nodes.specs.Emptiness.{is_empty_maplets};
 ghost use Rattle.tree_frames.specs.declared.frame.Frame.{Frame as FrameView};
 ghost use Rattle.tree_frames.specs.Views.{listed_view, ranged_view, conditioned_view, stop_view, stack_view, state_view};
 
+use crate::wanted::whole_at;
 use expr_tree::{Expr, Maplet};
 use std::alloc::Global;
 use tree_frames::{
@@ -34,7 +36,7 @@ pub fn behind_item(
             let items = with_expr(items, tree)?;
             opened(Frame::Items(listed, items, place), frames)
         }
-        _ => behind_first(alloc, listed, items, tree, place, stop, frames),
+        stop => behind_first(alloc, listed, items, tree, place, stop, frames),
     }
 }
 
@@ -78,25 +80,19 @@ fn closed_list(
 ) -> Result<Option<Mode>, OutOfMemory>
     ensures { IfOk result (λ next. (frames : List FrameView) → state_view next frames ≡ closes_list (listed_view listed) (stop_view stop) (in_mode (has (whole_list (listed_view listed) (expr_trees (views_of items.items)) place)) (stack_view frames))) }
 {
-    if closes(&listed, stop) {
-        let tree = boxed(alloc, whole_list(listed, items, place))?;
-        Ok(Some(Mode::Has(tree)))
-    } else {
-        Ok(None)
-    }
+    let wanted = closing(&listed);
+    let tree = boxed(alloc, whole_list(listed, items, place))?;
+    Ok(whole_at(wanted, tree, stop))
 }
 
-/// Whether the word closes the list.
-fn closes(listed: &Listed, stop: Stop) -> bool
-    ensures { (s : State) → closes_list (listed_view listed.now) (stop_view stop) s ≡ (if result then s else no_tree) }
+/// The word that closes a list.
+fn closing(listed: &Listed) -> Stop
+    ensures { (stop : StopView) (s : State) → closes_list (listed_view listed.now) stop s ≡ at (stop_view result) stop s }
 {
-    match (listed, stop) {
-        (Listed::SetOf, Stop::CloseCurly) => true,
-        (Listed::SetOf, _) => false,
-        (Listed::SequenceOf, Stop::CloseSquare) => true,
-        (Listed::SequenceOf, _) => false,
-        (_, Stop::CloseRound) => true,
-        (_, _) => false,
+    match listed {
+        Listed::SetOf => Stop::CloseCurly,
+        Listed::SequenceOf => Stop::CloseSquare,
+        _ => Stop::CloseRound,
     }
 }
 
@@ -111,16 +107,15 @@ pub fn end_range(
 ) -> Result<Option<Mode>, OutOfMemory>
     ensures { IfOk result (λ next. (frames : List FrameView) → state_view next frames ≡ end_range (ranged_view ranged) (view_of first.value) (view_of tree.value) place (stop_view stop) (stack_view frames)) }
 {
-    match (ranged, stop) {
-        (Ranged::InSet, Stop::CloseCurly) => {
+    match ranged {
+        Ranged::InSet => {
             let tree = boxed(alloc, Expr::set_range(first, tree, place))?;
-            Ok(Some(Mode::Has(tree)))
+            Ok(whole_at(Stop::CloseCurly, tree, stop))
         }
-        (Ranged::PartOfSequence(target), Stop::CloseRound) => {
+        Ranged::PartOfSequence(target) => {
             let tree = boxed(alloc, Expr::subsequence(target, first, tree, place))?;
-            Ok(Some(Mode::Has(tree)))
+            Ok(whole_at(Stop::CloseRound, tree, stop))
         }
-        _ => Ok(None),
     }
 }
 
@@ -141,15 +136,30 @@ pub fn behind_maplet(
             let maplets = with_maplet(maplets, Maplet::new(key, tree))?;
             opened(Frame::MapKey(maplets, place), frames)
         }
-        Stop::CloseCurly => {
+        Stop::Bar => behind_pair(alloc, maplets, key, tree, place, frames),
+        stop => {
             let maplets = with_maplet(maplets, Maplet::new(key, tree))?;
             let tree = boxed(alloc, Expr::map_enumeration(maplets, place))?;
-            Ok(Some(Mode::Has(tree)))
+            Ok(whole_at(Stop::CloseCurly, tree, stop))
         }
-        Stop::Bar if no_maplets(&maplets) => {
-            binding(alloc, BindsFor::MapEach(key, tree), place, frames)
-        }
-        _ => Ok(None),
+    }
+}
+
+/// A `|` behind a pair: that of a comprehension, where there is no pair before it.
+fn behind_pair(
+    alloc: Global,
+    maplets: Vec<Maplet>,
+    key: Box<Expr>,
+    tree: Box<Expr>,
+    place: Place,
+    frames: &mut Vec<Frame>,
+) -> Result<Option<Mode>, OutOfMemory>
+    ensures { IfOk result (λ next. state_view next frames.new.items ≡ behind_maplet (maplet_trees (map maplet_view maplets.items)) (view_of key.value) (view_of tree.value) place bar (stack_view frames.old.items)) }
+{
+    if no_maplets(&maplets) {
+        binding(alloc, BindsFor::MapEach(key, tree), place, frames)
+    } else {
+        Ok(None)
     }
 }
 
@@ -173,25 +183,21 @@ pub fn end_condition(
 ) -> Result<Option<Mode>, OutOfMemory>
     ensures { IfOk result (λ next. (frames : List FrameView) → state_view next frames ≡ end_condition (conditioned_view such) (maybe_view given) place (stop_view stop) (stack_view frames)) }
 {
-    match (such, stop) {
-        (Conditioned::SetSuch(element, binds), Stop::CloseCurly) => {
+    match such {
+        Conditioned::SetSuch(element, binds) => {
             let tree = boxed(alloc, Expr::set_comprehension(element, binds, given, place))?;
-            Ok(Some(Mode::Has(tree)))
+            Ok(whole_at(Stop::CloseCurly, tree, stop))
         }
-        (Conditioned::MapSuch(key, value, binds), Stop::CloseCurly) => {
+        Conditioned::MapSuch(key, value, binds) => {
             let tree = boxed(
                 alloc,
                 Expr::map_comprehension(key, value, binds, given, place),
             )?;
-            Ok(Some(Mode::Has(tree)))
+            Ok(whole_at(Stop::CloseCurly, tree, stop))
         }
-        (Conditioned::SequenceSuch(item, pattern, set), Stop::CloseSquare) => {
-            let tree = boxed(
-                alloc,
-                Expr::sequence_comprehension(item, pattern, set, given, place),
-            )?;
-            Ok(Some(Mode::Has(tree)))
+        Conditioned::SequenceSuch(item, pattern, set) => {
+            let tree = Expr::sequence_comprehension(item, pattern, set, given, place);
+            Ok(whole_at(Stop::CloseSquare, boxed(alloc, tree)?, stop))
         }
-        _ => Ok(None),
     }
 }
