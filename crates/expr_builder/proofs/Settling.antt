@@ -1,12 +1,14 @@
 -- What an expression becomes where frames end, step by step.
-use Rattle.std.proofs.Common.{◌≡◌, ℕ, List, [], ◌∷◌, Bool, true, false, if◌then◌else◌, nat_lt, refl, ap, sym, ◌∙◌}
+use Rattle.std.proofs.Common.{◌≡◌, ◌×◌, ℕ, suc, ◌-◌, List, [], ◌∷◌, ◌++◌, length, slice_get, Bool, true, false, if◌then◌else◌, nat_lt, Option, Some, None, MatchOption, refl, ap, sym, ◌∙◌, arith}
 use Rattle.abstract_syntax.specs.Expressions.{ExprTree}
-use Rattle.grammar_trees.specs.Frames.{Frame, State, Built, nothing, an_expr}
-use Rattle.grammar_trees.specs.Machine.{pull, completed, word_pull, follow_word, go_on, end_expr, step, run, no_tree, TypeReader}
-use Rattle.grammar_words.specs.Tokens.{Token}
+use Rattle.grammar_trees.specs.Frames.{Frame, State, Built}
+use Rattle.grammar_trees.specs.Machine.{pull, completed, word_pull, follow_word, go_on, end_expr}
 use Rattle.grammar_words.specs.declared.word.Word.{Word}
 use Rattle.vdm_kinds.specs.declared.place.Place.{Place}
-use Rattle.expr_builder.specs.Settling.{Closed, closed, pulls_more, settled, alone, ended}
+use Rattle.tree_frames.specs.declared.frame.Frame.{Frame as Kept}
+use Rattle.tree_frames.specs.Views.{frame_view, stack_view}
+use Rattle.tree_frames.proofs.Stacks.{stack-push}
+use Rattle.expr_builder.specs.Settling.{Closed, closed, pulls_more, settled, alone}
 
 -- what is chosen goes on as each choice does
 chosen : {A B : Type 0} (b : Bool) (x y : A) (s t : B) (go : A → B) → s ≡ go x → t ≡ go y → (if b then s else t) ≡ go (if b then x else y)
@@ -41,7 +43,23 @@ end-alone e [] = refl
 end-alone e (f ∷ fs) =
     chosen (nat_lt 0 (pull f)) (settled 0 (completed f e) fs) (closed e (f ∷ fs)) _ _ (λ (c : Closed). alone c.tree c.frames) (end-alone (completed f e) fs) refl
 
--- tokens that are refused are no tree
-pub run-refused : (types : TypeReader) (ts : List Token) → run types ts no_tree ≡ nothing
-run-refused types [] = refl
-run-refused types (t ∷ ts) = run-refused types ts
+-- the innermost frame is the last that is kept
+last-split : (frames : List Kept) (last : Kept) → Some last ≡ slice_get frames (length frames - 1) → (rest : List Kept) × (frames ≡ rest ++ last ∷ [])
+last-split [] last e = absurd (cc)
+last-split (frame ∷ []) last e = let same : last ≡ frame = cc in ([], ap (λ (f : Kept). f ∷ []) (sym same))
+last-split (frame ∷ second ∷ frames) last e =
+    let n : length (frame ∷ second ∷ frames) - 1 ≡ suc (length frames) = omega arith in
+    let m : length frames ≡ length (second ∷ frames) - 1 = omega arith in
+    let rest = last-split (second ∷ frames) last (e ∙ ap (slice_get (frame ∷ second ∷ frames)) n ∙ ap (slice_get (second ∷ frames)) m) in
+    (frame ∷ rest.0, ap (λ (fs : List Kept). frame ∷ fs) rest.1)
+
+pub last-pulls : (behind : ℕ) (frames : List Kept) (last : Kept) (n : ℕ) → Some last ≡ slice_get frames (length frames - 1) → n ≡ pull (frame_view last) → nat_lt behind n ≡ pulls_more behind (stack_view frames)
+last-pulls behind frames last n e is =
+    let rest = last-split frames last e in
+    ap (nat_lt behind) is ∙ sym (ap (pulls_more behind) (ap stack_view rest.1 ∙ stack-push rest.0 last))
+
+-- a frame is taken off where it pulls more
+pub pulled-off : (behind : ℕ) (old new : List Frame) (found : Option Kept) → pulls_more behind old ≡ true → MatchOption found (old ≡ []) (λ frame. old ≡ frame_view frame ∷ new)
+    → MatchOption found ((pulls_more behind old ≡ false) × (new ≡ old)) (λ frame. (pulls_more behind old ≡ true) × (old ≡ frame_view frame ∷ new))
+pulled-off behind old new None more is = absurd (let none : pulls_more behind old ≡ false = ap (pulls_more behind) is in cc)
+pulled-off behind old new (Some frame) more is = (more, is)
