@@ -70,6 +70,9 @@ pub fn taken_pattern(
             let maplets = with_maplet_pattern(maplets, MapletPattern::new(key, value))?;
             behind_pattern_value(maplets, place, stop, frames)
         }
-        _ => Ok(None),
+        frame => {
+            frame.discard();
+            Ok(None)
+        }
     }
 }

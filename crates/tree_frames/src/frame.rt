@@ -96,3 +96,9 @@ pub enum Frame {
     /// A bracket in a type.
     TypeBracket,
 }
+
+impl Frame {
+    /// The frame goes, with what was read of its tree. A crate that drops a frame by itself proves again how all
+    /// kinds of frames are dropped.
+    pub fn discard(self) {}
+}

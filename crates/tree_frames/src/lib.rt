@@ -1,7 +1,7 @@
 //! What is open where a tree is built from tokens.
 #![tactic(auto)]
 
-mod boxed;
+mod boxes;
 mod frame;
 mod header;
 mod lists;
@@ -10,7 +10,7 @@ mod purpose;
 mod stack;
 mod stop;
 
-pub use boxed::boxed;
+pub use boxes::boxed;
 pub use frame::Frame;
 pub use header::{Header, TypeNameFor};
 pub use lists::{

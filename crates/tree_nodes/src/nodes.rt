@@ -8,20 +8,26 @@ ghost use Rattle.tree_frames.specs.Views.{enclosed_view, listed_view, patterns_f
 
 use expr_tree::{Expr, Pattern};
 use std::alloc::Global;
-use tree_frames::{Body, Compared, Enclosed, Frame, Listed, PatternsFor};
+use tree_frames::{Body, Compared, Enclosed, Frame, Listed, PatternsFor, boxed};
 use vdm_kinds::{OutOfMemory, Place, Sign};
 
 /// An expression in round brackets.
 pub fn enclose(
     alloc: Global,
     purpose: Enclosed,
-    inner: Expr,
+    inner: Box<Expr>,
     place: Place,
-) -> Result<Expr, OutOfMemory>
-    ensures { IfOk result (λ tree. view_of tree ≡ enclose (enclosed_view purpose) (view_of inner) place) }
+) -> Result<Box<Expr>, OutOfMemory>
+    ensures { IfOk result (λ tree. view_of tree.value ≡ enclose (enclosed_view purpose) (view_of inner.value) place) }
 {
-    let inner = Box::new(alloc, inner)?;
-    Ok(match purpose {
+    boxed(alloc, enclosed(purpose, inner, place))
+}
+
+/// What an expression in round brackets is.
+fn enclosed(purpose: Enclosed, inner: Box<Expr>, place: Place) -> Expr
+    ensures { view_of result ≡ enclose (enclosed_view purpose) (view_of inner.value) place }
+{
+    match purpose {
         Enclosed::Bracket => Expr::bracketed(inner, place),
         Enclosed::TokenOf => Expr::make_token(inner, place),
         Enclosed::NamedTest(type_name) => Expr::is_of_named(type_name, inner, place),
@@ -32,7 +38,7 @@ pub fn enclose(
         Enclosed::BaseClassTest(class, class_place) => {
             Expr::is_of_base_class(class, class_place, inner, place)
         }
-    })
+    }
 }
 
 /// A list with its items.
@@ -66,16 +72,15 @@ pub fn compare(
     alloc: Global,
     compared: Compared,
     left: Box<Expr>,
-    right: Expr,
+    right: Box<Expr>,
     place: Place,
-) -> Result<Expr, OutOfMemory>
-    ensures { IfOk result (λ tree. view_of tree ≡ compare (compared_view compared) (view_of left.value) (view_of right) place) }
+) -> Result<Box<Expr>, OutOfMemory>
+    ensures { IfOk result (λ tree. view_of tree.value ≡ compare (compared_view compared) (view_of left.value) (view_of right.value) place) }
 {
-    let right = Box::new(alloc, right)?;
-    Ok(match compared {
-        Compared::Classes => Expr::same_class(left, right, place),
-        Compared::BaseClasses => Expr::same_base_class(left, right, place),
-    })
+    match compared {
+        Compared::Classes => boxed(alloc, Expr::same_class(left, right, place)),
+        Compared::BaseClasses => boxed(alloc, Expr::same_base_class(left, right, place)),
+    }
 }
 
 /// What goes to the right as far as it can, with its last expression.
@@ -95,50 +100,20 @@ pub fn with_body(body: Body, last: Box<Expr>, place: Place) -> Expr
 }
 
 /// The tree of a frame that ends with the expression.
-pub fn completed(alloc: Global, frame: Frame, last: Expr) -> Result<Expr, OutOfMemory>
-    ensures { IfOk result (λ tree. view_of tree ≡ completed (frame_view frame) (view_of last)) }
+pub fn completed(
+    alloc: Global,
+    frame: Frame,
+    last: Box<Expr>,
+) -> Result<Box<Expr>, OutOfMemory>
+    ensures { IfOk result (λ tree. view_of tree.value ≡ completed (frame_view frame) (view_of last.value)) }
 {
     match frame {
-        Frame::OperandOf(sign, place) => prefix(alloc, sign, last, place),
-        Frame::RightOf(left, sign, place) => infix(alloc, left, sign, last, place),
-        Frame::Body(body, place) => body_of(alloc, body, last, place),
-        frame => Ok(unchanged(frame, last)),
+        Frame::OperandOf(sign, place) => boxed(alloc, Expr::prefix(sign, last, place)),
+        Frame::RightOf(left, sign, place) => boxed(alloc, Expr::infix(left, sign, last, place)),
+        Frame::Body(body, place) => boxed(alloc, with_body(body, last, place)),
+        frame => {
+            frame.discard();
+            Ok(last)
+        }
     }
-}
-
-/// An operator before its operand.
-fn prefix(alloc: Global, sign: Sign, operand: Expr, place: Place) -> Result<Expr, OutOfMemory>
-    ensures { IfOk result (λ tree. view_of tree ≡ prefixed sign (view_of operand) place) }
-{
-    let operand = Box::new(alloc, operand)?;
-    Ok(Expr::prefix(sign, operand, place))
-}
-
-/// An operator between its operands.
-fn infix(
-    alloc: Global,
-    left: Box<Expr>,
-    sign: Sign,
-    right: Expr,
-    place: Place,
-) -> Result<Expr, OutOfMemory>
-    ensures { IfOk result (λ tree. view_of tree ≡ joined (view_of left.value) sign (view_of right) place) }
-{
-    let right = Box::new(alloc, right)?;
-    Ok(Expr::infix(left, sign, right, place))
-}
-
-/// What goes to the right as far as it can, with its last expression.
-fn body_of(alloc: Global, body: Body, last: Expr, place: Place) -> Result<Expr, OutOfMemory>
-    ensures { IfOk result (λ tree. view_of tree ≡ with_body (body_view body) (view_of last) place) }
-{
-    let last = Box::new(alloc, last)?;
-    Ok(with_body(body, last, place))
-}
-
-/// The expression as it is; the frame goes.
-fn unchanged(_frame: Frame, last: Expr) -> Expr
-    ensures { result ≡ last }
-{
-    last
 }

@@ -12,7 +12,7 @@ ghost use Rattle.type_reading.specs.Reading.{type_of};
 use expr_tree::{Defined, Expr, Pattern};
 use grammar_tokens::Token;
 use std::alloc::Global;
-use tree_frames::{Frame, Mode, pushed};
+use tree_frames::{Frame, Mode, boxed, pushed};
 use type_grammar::build_type;
 use vdm_kinds::{OutOfMemory, Place};
 
@@ -36,7 +36,10 @@ pub fn end_test(
 {
     match build_type(alloc, &tokens)? {
         None => Ok(None),
-        Some(declared) => Ok(Some(Mode::Has(Expr::is_of_type(tree, declared, place)))),
+        Some(declared) => {
+            let tree = boxed(alloc, Expr::is_of_type(tree, declared, place))?;
+            Ok(Some(Mode::Has(tree)))
+        }
     }
 }
 

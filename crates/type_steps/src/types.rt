@@ -78,9 +78,13 @@ fn close_type(
     ensures { IfOk result (λ next. state_view next frames.new.items ≡ close_type type_of (token_views tokens.items) (plain word_is.CloseRound place) (stack_view frames.old.items)) }
 {
     match popped(frames) {
+        None => Ok(None),
         Some(Frame::TypeBracket) => collected(tokens, Token::Plain(Word::CloseRound, place)),
         Some(Frame::TestType(tree, test_place)) => end_test(alloc, tokens, tree, test_place),
-        _ => Ok(None),
+        Some(frame) => {
+            frame.discard();
+            Ok(None)
+        }
     }
 }
 
@@ -93,8 +97,12 @@ fn close_square_type(
     ensures { IfOk result (λ next. state_view next frames.new.items ≡ close_square_type (token_views tokens.items) (plain word_is.CloseSquare place) (stack_view frames.old.items)) }
 {
     match popped(frames) {
+        None => Ok(None),
         Some(Frame::TypeBracket) => collected(tokens, Token::Plain(Word::CloseSquare, place)),
-        _ => Ok(None),
+        Some(frame) => {
+            frame.discard();
+            Ok(None)
+        }
     }
 }
 
@@ -107,9 +115,13 @@ fn equal_type(
     ensures { IfOk result (λ next. state_view next frames.new.items ≡ equal_type type_of (token_views tokens.items) (stack_view frames.old.items)) }
 {
     match popped(frames) {
+        None => Ok(None),
         Some(Frame::LetType(definitions, pattern, place)) => {
             end_let(alloc, tokens, definitions, pattern, place, frames)
         }
-        _ => Ok(None),
+        Some(frame) => {
+            frame.discard();
+            Ok(None)
+        }
     }
 }
