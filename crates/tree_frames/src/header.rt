@@ -53,3 +53,8 @@ pub enum Header {
     EmptyMapEnd(Place),
     EmptyPatternEnd(Place),
 }
+
+impl Header {
+    /// The form goes, with what was read of it.
+    pub fn discard(self) {}
+}

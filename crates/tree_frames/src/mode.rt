@@ -20,3 +20,8 @@ pub enum Mode {
     /// Tokens of a type were read.
     Typing(Vec<Token>),
 }
+
+impl Mode {
+    /// What was read goes.
+    pub fn discard(self) {}
+}
