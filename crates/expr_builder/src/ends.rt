@@ -39,7 +39,10 @@ fn alone(tree: Box<Expr>, frames: &mut Vec<Frame>) -> Option<Expr>
 {
     match popped(frames) {
         None => Some(Box::into_inner(tree)),
-        Some(_frame) => None,
+        Some(frame) => {
+            frame.discard();
+            None
+        }
     }
 }
 

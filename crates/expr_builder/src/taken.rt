@@ -8,7 +8,7 @@ ghost use Rattle.tree_frames.specs.Views.{frame_view, stop_view, stack_view, sta
 use expr_parts::{
     behind_branch, behind_case, behind_definition, behind_field, behind_item, behind_maplet,
     behind_sequence_set, behind_set, enclosed, end_condition, end_range, matched, modified,
-    opened_at, right_class, subject, tested, tuple_started, whole_at,
+    next_at, opened_at, right_class, subject, tested, tuple_started,
 };
 use expr_tree::{Bind, Branch, Case, Defined, Expr, FieldValue};
 use std::alloc::Global;
@@ -27,7 +27,10 @@ pub fn taken_by(
     ensures { IfOk result (λ next. state_view next frames.new.items ≡ taken_by (stack_view frames.old.items) (view_of tree.value) (stop_view stop)) }
 {
     match popped(frames) {
-        None => Ok(None),
+        None => {
+            Mode::Has(tree).discard();
+            Ok(None)
+        }
         Some(frame) => taken(alloc, frame, tree, stop, frames),
     }
 }
@@ -158,8 +161,12 @@ fn taken_choice(
         }
         Frame::OthersValue(subject, cases, place) => {
             let tree = boxed(alloc, Expr::cases(subject, cases, Some(tree), place))?;
-            Ok(whole_at(Stop::End, tree, stop))
+            Ok(next_at(Stop::End, Mode::Has(tree), stop))
         }
-        _ => Ok(None),
+        frame => {
+            frame.discard();
+            Mode::Has(tree).discard();
+            Ok(None)
+        }
     }
 }

@@ -7,7 +7,7 @@ ghost use Rattle.grammar_trees.specs.Frames as pure;
 ghost use Rattle.grammar_trees.specs.Machine.{at_colon, behind_branch, behind_case, in_mode};
 ghost use Rattle.tree_frames.specs.Views.{stop_view, stack_view, state_view};
 
-use crate::wanted::{opened_at, whole_at};
+use crate::wanted::{next_at, opened_at};
 use expr_tree::{Branch, Case, Expr};
 use std::alloc::Global;
 use tree_frames::{Body, Frame, Mode, Stop, boxed};
@@ -46,7 +46,10 @@ pub fn subject(
 {
     match stop {
         Stop::Colon => next_case(alloc, tree, Vec::new(alloc), place, frames),
-        _ => Ok(None),
+        _ => {
+            Mode::Has(tree).discard();
+            Ok(None)
+        }
     }
 }
 
@@ -65,7 +68,7 @@ pub fn behind_case(
         Stop::Comma => next_case(alloc, subject, cases, place, frames),
         stop => {
             let tree = boxed(alloc, Expr::cases(subject, cases, None, place))?;
-            Ok(whole_at(Stop::End, tree, stop))
+            Ok(next_at(Stop::End, Mode::Has(tree), stop))
         }
     }
 }

@@ -8,11 +8,11 @@ ghost use Rattle.grammar_trees.specs.Machine.{at_round, at_comma, in_mode, enclo
 ghost use Rattle.tree_frames.specs.declared.frame.Frame.{Frame as FrameView};
 ghost use Rattle.tree_frames.specs.Views.{enclosed_view, compared_view, stop_view, stack_view, state_view};
 
-use crate::wanted::{opened_at, whole_at};
+use crate::wanted::{next_at, opened_at};
 use expr_tree::{Expr, Pattern};
 use std::alloc::Global;
 use tree_frames::{Compared, Enclosed, Frame, Header, Listed, Mode, Stop, pushed, with_expr};
-use tree_nodes::{awaiting, compare, enclose};
+use tree_nodes::{compare, enclose};
 use vdm_kinds::{OutOfMemory, Place};
 
 /// The `)` behind an expression.
@@ -26,17 +26,15 @@ pub fn enclosed(
     ensures { IfOk result (λ next. (frames : List FrameView) → state_view next frames ≡ at_round (stop_view stop) (in_mode (pure.has (enclose (enclosed_view purpose) (view_of tree.value) place)) (stack_view frames))) }
 {
     let tree = enclose(alloc, purpose, tree, place)?;
-    Ok(whole_at(Stop::CloseRound, tree, stop))
+    Ok(next_at(Stop::CloseRound, Mode::Has(tree), stop))
 }
 
 /// The `)` behind an expression that is a pattern.
 pub fn matched(tree: Box<Expr>, place: Place, stop: Stop) -> Option<Mode>
     ensures { (frames : List FrameView) → state_view result frames ≡ at_round (stop_view stop) (in_mode (pure.has_pattern (trees.equal_to (view_of tree.value) place)) (stack_view frames)) }
 {
-    match stop {
-        Stop::CloseRound => Some(Mode::HasPattern(Pattern::equal_to(tree, place))),
-        _ => None,
-    }
+    let pattern = Pattern::equal_to(tree, place);
+    next_at(Stop::CloseRound, Mode::HasPattern(pattern), stop)
 }
 
 /// The `,` behind the first part of a tuple.
@@ -66,7 +64,7 @@ pub fn right_class(
     ensures { IfOk result (λ next. (frames : List FrameView) → state_view next frames ≡ at_round (stop_view stop) (in_mode (pure.has (compare (compared_view compared) (view_of left.value) (view_of tree.value) place)) (stack_view frames))) }
 {
     let tree = compare(alloc, compared, left, tree, place)?;
-    Ok(whole_at(Stop::CloseRound, tree, stop))
+    Ok(next_at(Stop::CloseRound, Mode::Has(tree), stop))
 }
 
 /// The `,` behind what `is_` tests.
@@ -84,7 +82,10 @@ pub fn tested(
             pushed(frames, Frame::TestType(tree, place))?;
             Ok(Some(Mode::Typing(Vec::new(alloc))))
         }
-        _ => Ok(None),
+        _ => {
+            Mode::Has(tree).discard();
+            Ok(None)
+        }
     }
 }
 
@@ -92,8 +93,6 @@ pub fn tested(
 pub fn modified(alloc: Global, tree: Box<Expr>, place: Place, stop: Stop) -> Option<Mode>
     ensures { (frames : List FrameView) → state_view result frames ≡ at_comma (stop_view stop) (in_mode (pure.awaits (pure.field_name (view_of tree.value) trees.no_field_values place)) (stack_view frames)) }
 {
-    match stop {
-        Stop::Comma => awaiting(Header::FieldName(tree, Vec::new(alloc), place)),
-        _ => None,
-    }
+    let header = Header::FieldName(tree, Vec::new(alloc), place);
+    next_at(Stop::Comma, Mode::Awaits(header), stop)
 }

@@ -10,7 +10,7 @@ ghost use Rattle.tree_nodes.specs.Emptiness.{is_empty_maplets};
 ghost use Rattle.tree_frames.specs.declared.frame.Frame.{Frame as FrameView};
 ghost use Rattle.tree_frames.specs.Views.{listed_view, ranged_view, conditioned_view, stop_view, stack_view, state_view};
 
-use crate::wanted::whole_at;
+use crate::wanted::next_at;
 use expr_tree::{Expr, Maplet};
 use std::alloc::Global;
 use tree_frames::{
@@ -82,7 +82,7 @@ fn closed_list(
 {
     let wanted = closing(&listed);
     let tree = boxed(alloc, whole_list(listed, items, place))?;
-    Ok(whole_at(wanted, tree, stop))
+    Ok(next_at(wanted, Mode::Has(tree), stop))
 }
 
 /// The word that closes a list.
@@ -110,11 +110,11 @@ pub fn end_range(
     match ranged {
         Ranged::InSet => {
             let tree = boxed(alloc, Expr::set_range(first, tree, place))?;
-            Ok(whole_at(Stop::CloseCurly, tree, stop))
+            Ok(next_at(Stop::CloseCurly, Mode::Has(tree), stop))
         }
         Ranged::PartOfSequence(target) => {
             let tree = boxed(alloc, Expr::subsequence(target, first, tree, place))?;
-            Ok(whole_at(Stop::CloseRound, tree, stop))
+            Ok(next_at(Stop::CloseRound, Mode::Has(tree), stop))
         }
     }
 }
@@ -140,7 +140,7 @@ pub fn behind_maplet(
         stop => {
             let maplets = with_maplet(maplets, Maplet::new(key, tree))?;
             let tree = boxed(alloc, Expr::map_enumeration(maplets, place))?;
-            Ok(whole_at(Stop::CloseCurly, tree, stop))
+            Ok(next_at(Stop::CloseCurly, Mode::Has(tree), stop))
         }
     }
 }
@@ -186,18 +186,18 @@ pub fn end_condition(
     match such {
         Conditioned::SetSuch(element, binds) => {
             let tree = boxed(alloc, Expr::set_comprehension(element, binds, given, place))?;
-            Ok(whole_at(Stop::CloseCurly, tree, stop))
+            Ok(next_at(Stop::CloseCurly, Mode::Has(tree), stop))
         }
         Conditioned::MapSuch(key, value, binds) => {
             let tree = boxed(
                 alloc,
                 Expr::map_comprehension(key, value, binds, given, place),
             )?;
-            Ok(whole_at(Stop::CloseCurly, tree, stop))
+            Ok(next_at(Stop::CloseCurly, Mode::Has(tree), stop))
         }
         Conditioned::SequenceSuch(item, pattern, set) => {
             let tree = Expr::sequence_comprehension(item, pattern, set, given, place);
-            Ok(whole_at(Stop::CloseSquare, boxed(alloc, tree)?, stop))
+            Ok(next_at(Stop::CloseSquare, Mode::Has(boxed(alloc, tree)?), stop))
         }
     }
 }

@@ -6,7 +6,7 @@ ghost use Rattle.grammar_trees.specs.Machine.{behind_field, behind_definition};
 ghost use Rattle.tree_frames.specs.declared.frame.Frame.{Frame as FrameView};
 ghost use Rattle.tree_frames.specs.Views.{stop_view, stack_view, state_view};
 
-use crate::wanted::{opened_at, whole_at};
+use crate::wanted::{next_at, opened_at};
 use expr_tree::{Defined, Expr, FieldValue};
 use std::alloc::Global;
 use tree_frames::{Body, Frame, Header, Mode, Stop, boxed};
@@ -27,7 +27,7 @@ pub fn behind_field(
         Stop::Comma => Ok(awaiting(Header::FieldName(target, fields, place))),
         stop => {
             let tree = boxed(alloc, Expr::modify_record(target, fields, place))?;
-            Ok(whole_at(Stop::CloseRound, tree, stop))
+            Ok(next_at(Stop::CloseRound, Mode::Has(tree), stop))
         }
     }
 }

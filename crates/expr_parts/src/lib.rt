@@ -13,4 +13,4 @@ pub use choices::{behind_branch, behind_case, subject};
 pub use closes::{enclosed, matched, modified, right_class, tested, tuple_started};
 pub use collections::{behind_item, behind_maplet, end_condition, end_range};
 pub use definitions::{behind_definition, behind_field};
-pub use wanted::{opened_at, whole_at};
+pub use wanted::{next_at, opened_at};

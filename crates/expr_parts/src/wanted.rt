@@ -1,19 +1,17 @@
 // What goes on at one word alone.
 
 ghost use Rattle.std.specs.Prelude.{◌≡◌, ◌∷◌, if◌then◌else◌, List, IfOk};
-ghost use Rattle.expr_tree.specs.View.{view_of};
 ghost use Rattle.expr_parts.specs.At.{at};
-ghost use Rattle.grammar_trees.specs.Frames.{State, has, wants};
+ghost use Rattle.grammar_trees.specs.Frames.{State, wants};
 ghost use Rattle.grammar_trees.specs.Machine.{in_mode, no_tree};
 ghost use Rattle.tree_frames.specs.declared.frame.Frame.{Frame as FrameView};
-ghost use Rattle.tree_frames.specs.Views.{frame_view, stop_view, stack_view, state_view};
+ghost use Rattle.tree_frames.specs.Views.{frame_view, mode_view, stop_view, stack_view, state_view};
 
-use expr_tree::Expr;
 use tree_frames::{Frame, Mode, Stop};
 use tree_nodes::opened;
 use vdm_kinds::OutOfMemory;
 
-/// A frame is opened, and an expression is wanted, at this word alone.
+/// At this word alone a frame is opened, and an expression is wanted.
 pub fn opened_at(
     wanted: Stop,
     frame: Frame,
@@ -25,17 +23,19 @@ pub fn opened_at(
     if is_wanted(wanted, stop) {
         opened(frame, frames)
     } else {
+        frame.discard();
         Ok(None)
     }
 }
 
-/// The expression is whole at this word alone.
-pub fn whole_at(wanted: Stop, tree: Box<Expr>, stop: Stop) -> Option<Mode>
-    ensures { (frames : List FrameView) → state_view result frames ≡ at (stop_view wanted) (stop_view stop) (in_mode (has (view_of tree.value)) (stack_view frames)) }
+/// At this word alone this comes next.
+pub fn next_at(wanted: Stop, next: Mode, stop: Stop) -> Option<Mode>
+    ensures { (frames : List FrameView) → state_view result frames ≡ at (stop_view wanted) (stop_view stop) (in_mode (mode_view next) (stack_view frames)) }
 {
     if is_wanted(wanted, stop) {
-        Some(Mode::Has(tree))
+        Some(next)
     } else {
+        next.discard();
         None
     }
 }
