@@ -1,7 +1,7 @@
 -- What an expression becomes where the frames end that pull more at it than what stands behind it.
 use Rattle.std.specs.Prelude.{ℕ, Bool, true, false, if◌then◌else◌, nat_lt, List, [], ◌∷◌}
-use Rattle.abstract_syntax.specs.Expressions.{ExprTree}
-use Rattle.grammar_trees.specs.Frames.{Frame, State, Built, nothing, an_expr}
+use Rattle.abstract_syntax.specs.Expressions.{ExprTree, PatternTree}
+use Rattle.grammar_trees.specs.Frames.{Frame, State, Built, nothing, an_expr, a_pattern}
 use Rattle.grammar_trees.specs.Machine.{pull, completed, end_in}
 
 -- an expression, and what is open round it
@@ -25,6 +25,10 @@ settled behind e (f ∷ fs) = if nat_lt behind (pull f) then settled behind (com
 abbrev pub alone : ExprTree → List Frame → Built
 alone e [] = an_expr e
 alone e (f ∷ fs) = nothing
+
+abbrev pub alone_pattern : PatternTree → List Frame → Built
+alone_pattern p [] = a_pattern p
+alone_pattern p (f ∷ fs) = nothing
 
 -- what was built, where the tokens end
 abbrev pub ended : State → Built

@@ -4,7 +4,7 @@ ghost use Rattle.std.specs.Prelude.{◌≡◌, IfOk, option_map};
 ghost use Rattle.expr_tree.specs.View.{view_of, pattern_view};
 ghost use Rattle.grammar_trees.specs.Machine.{end_pattern, end_in};
 ghost use Rattle.grammar_trees.specs.Reading.{built_expr, built_pattern};
-ghost use Rattle.expr_builder.specs.Settling.{alone};
+ghost use Rattle.expr_builder.specs.Settling.{alone, alone_pattern};
 ghost use Rattle.tree_frames.specs.Views.{mode_view, stack_view};
 
 use crate::settling::settled;
@@ -29,7 +29,10 @@ pub fn end_expr(
             let tree = settled(alloc, END, tree, frames)?;
             Ok(alone(tree, frames))
         }
-        _ => Ok(None),
+        mode => {
+            mode.discard();
+            Ok(None)
+        }
     }
 }
 
@@ -41,6 +44,7 @@ fn alone(tree: Box<Expr>, frames: &mut Vec<Frame>) -> Option<Expr>
         None => Some(Box::into_inner(tree)),
         Some(frame) => {
             frame.discard();
+            Mode::Has(tree).discard();
             None
         }
     }
@@ -52,7 +56,10 @@ pub fn end_pattern(mode: Mode, frames: &mut Vec<Frame>) -> Result<Option<Pattern
 {
     match mode {
         Mode::HasPattern(pattern) => joined(pattern, frames),
-        _ => Ok(None),
+        mode => {
+            mode.discard();
+            Ok(None)
+        }
     }
 }
 
@@ -64,11 +71,26 @@ fn joined(pattern: Pattern, frames: &mut Vec<Frame>) -> Result<Option<Pattern>, 
         None => Ok(Some(pattern)),
         Some(Frame::Concatenated(parts, place)) => {
             let parts = with_pattern(parts, pattern)?;
-            match popped(frames) {
-                None => Ok(Some(Pattern::concatenation(parts, place))),
-                Some(_frame) => Ok(None),
-            }
+            Ok(alone_pattern(Pattern::concatenation(parts, place), frames))
         }
-        Some(_frame) => Ok(None),
+        Some(frame) => {
+            frame.discard();
+            Mode::HasPattern(pattern).discard();
+            Ok(None)
+        }
+    }
+}
+
+/// The pattern, where nothing is open round it.
+fn alone_pattern(pattern: Pattern, frames: &mut Vec<Frame>) -> Option<Pattern>
+    ensures { option_map pattern_view result ≡ built_pattern (alone_pattern (pattern_view pattern) (stack_view frames.old.items)) }
+{
+    match popped(frames) {
+        None => Some(pattern),
+        Some(frame) => {
+            frame.discard();
+            Mode::HasPattern(pattern).discard();
+            None
+        }
     }
 }

@@ -30,7 +30,10 @@ pub fn follow(
 {
     match token {
         Token::Plain(word, place) => follow_plain(alloc, tree, word, place, frames),
-        _ => Ok(None),
+        _ => {
+            Mode::Has(tree).discard();
+            Ok(None)
+        }
     }
 }
 
@@ -100,6 +103,7 @@ fn between(
     if is_infix(sign) {
         opened(Frame::RightOf(tree, sign, place), frames)
     } else {
+        Mode::Has(tree).discard();
         Ok(None)
     }
 }
