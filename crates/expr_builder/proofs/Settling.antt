@@ -32,16 +32,23 @@ settled-end behind e [] h = refl
 settled-end behind e (f ∷ fs) h = ap (λ (b : Bool). if b then settled behind (completed f e) fs else closed e (f ∷ fs)) h
 
 -- a word goes on behind what ends before it
-pub followed : (w : Word) (place : Place) (e : ExprTree) (fs : List Frame) → follow_word w place e fs ≡ go_on w place (settled (word_pull w) e fs).tree (settled (word_pull w) e fs).frames
+followed : (w : Word) (place : Place) (e : ExprTree) (fs : List Frame) → follow_word w place e fs ≡ go_on w place (settled (word_pull w) e fs).tree (settled (word_pull w) e fs).frames
 followed w place e [] = refl
 followed w place e (f ∷ fs) =
     chosen (nat_lt (word_pull w) (pull f)) (settled (word_pull w) (completed f e) fs) (closed e (f ∷ fs)) _ _ (λ (c : Closed). go_on w place c.tree c.frames) (followed w place (completed f e) fs) refl
 
+pub followed-on : (w : Word) (place : Place) (e whole : ExprTree) (old new : List Frame) (n : ℕ) → n ≡ word_pull w → settled n e old ≡ closed whole new → go_on w place whole new ≡ follow_word w place e old
+followed-on w place e whole old new n is made =
+    sym (followed w place e old ∙ ap (λ (c : Closed). go_on w place c.tree c.frames) (ap (λ (k : ℕ). settled k e old) (sym is) ∙ made))
+
 -- at the end of the tokens nothing else may be open
-pub end-alone : (e : ExprTree) (fs : List Frame) → end_expr e fs ≡ alone (settled 0 e fs).tree (settled 0 e fs).frames
+end-alone : (e : ExprTree) (fs : List Frame) → end_expr e fs ≡ alone (settled 0 e fs).tree (settled 0 e fs).frames
 end-alone e [] = refl
 end-alone e (f ∷ fs) =
     chosen (nat_lt 0 (pull f)) (settled 0 (completed f e) fs) (closed e (f ∷ fs)) _ _ (λ (c : Closed). alone c.tree c.frames) (end-alone (completed f e) fs) refl
+
+pub ended-on : (e whole : ExprTree) (old new : List Frame) → settled 0 e old ≡ closed whole new → alone whole new ≡ end_expr e old
+ended-on e whole old new made = sym (end-alone e old ∙ ap (λ (c : Closed). alone c.tree c.frames) made)
 
 -- the innermost frame is the last that is kept
 last-split : (frames : List Kept) (last : Kept) → Some last ≡ slice_get frames (length frames - 1) → (rest : List Kept) × (frames ≡ rest ++ last ∷ [])

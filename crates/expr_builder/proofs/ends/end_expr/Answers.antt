@@ -1,0 +1,7 @@
+use Rattle.std.proofs.Common.{ap, ◌∙◌}
+use Rattle.grammar_trees.specs.Reading.{built_expr}
+use Rattle.expr_builder.proofs.Settling.{ended-on}
+use Rattle.expr_builder.proofs.ends.end_expr.Goals as goal
+
+pub returns-in-Has : goal.returns-in-Has
+returns-in-Has c = c.alone.ensures ∙ ap built_expr (ended-on _ _ _ _ c.in_ok-tree.ensures)
