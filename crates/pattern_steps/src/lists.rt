@@ -48,16 +48,54 @@ fn behind_first_pattern(
 ) -> Result<Option<Mode>, OutOfMemory>
     ensures { IfOk result (λ next. state_view next frames.new.items ≡ behind_first_pattern (patterns_for_view listed) (pattern_trees (pattern_views patterns.items)) (pattern_view pattern) place (stop_view stop) (stack_view frames.old.items)) }
 {
-    let first = is_empty_pattern(&patterns);
-    match (listed, first, stop) {
-        (PatternsFor::SetLike, true, Stop::MapsTo) => {
-            let pattern = Box::new(alloc, pattern)?;
-            opened_pattern(Frame::PatternValue(Vec::new(alloc), pattern, place), frames)
-        }
-        _ => {
+    match listed {
+        PatternsFor::SetLike => in_curly(alloc, patterns, pattern, place, stop, frames),
+        listed => {
             let patterns = with_pattern(patterns, pattern)?;
             Ok(closed_patterns(listed, patterns, place, stop))
         }
+    }
+}
+
+/// Behind a pattern in curly brackets.
+fn in_curly(
+    alloc: Global,
+    patterns: Vec<Pattern>,
+    pattern: Pattern,
+    place: Place,
+    stop: Stop,
+    frames: &mut Vec<Frame>,
+) -> Result<Option<Mode>, OutOfMemory>
+    ensures { IfOk result (λ next. state_view next frames.new.items ≡ behind_first_pattern pure.set_like (pattern_trees (pattern_views patterns.items)) (pattern_view pattern) place (stop_view stop) (stack_view frames.old.items)) }
+{
+    if is_empty_pattern(&patterns) {
+        first_in_curly(alloc, pattern, place, stop, frames)
+    } else {
+        let patterns = with_pattern(patterns, pattern)?;
+        Ok(at_curly(Pattern::set(patterns, place), stop))
+    }
+}
+
+/// Behind the first pattern in curly brackets.
+fn first_in_curly(
+    alloc: Global,
+    pattern: Pattern,
+    place: Place,
+    stop: Stop,
+    frames: &mut Vec<Frame>,
+) -> Result<Option<Mode>, OutOfMemory>
+    ensures { IfOk result (λ next. state_view next frames.new.items ≡ behind_first_pattern pure.set_like no_patterns (pattern_view pattern) place (stop_view stop) (stack_view frames.old.items)) }
+{
+    match stop {
+        Stop::MapsTo => {
+            let pattern = Box::new(alloc, pattern)?;
+            opened_pattern(Frame::PatternValue(Vec::new(alloc), pattern, place), frames)
+        }
+        Stop::CloseCurly => {
+            let patterns = with_pattern(Vec::new(alloc), pattern)?;
+            Ok(Some(Mode::HasPattern(Pattern::set(patterns, place))))
+        }
+        _ => Ok(None),
     }
 }
 

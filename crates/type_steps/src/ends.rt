@@ -4,9 +4,9 @@ ghost use Rattle.std.specs.Prelude.{◌≡◌, ◌∷◌, ◌++◌, [], List, If
 ghost use Rattle.expr_tree.specs.View.{view_of, pattern_view, defined_trees, defined_view};
 ghost use Rattle.grammar_tokens.specs.View.{token_view, token_views};
 ghost use Rattle.grammar_trees.specs.Frames.{typing};
-ghost use Rattle.grammar_trees.specs.Machine.{in_mode, end_test, end_let};
+ghost use Rattle.grammar_trees.specs.Machine.{end_test, end_let};
 ghost use Rattle.tree_frames.specs.declared.frame.Frame.{Frame as FrameView};
-ghost use Rattle.tree_frames.specs.Views.{stack_view, state_view};
+ghost use Rattle.tree_frames.specs.Views.{mode_view, stack_view, state_view};
 ghost use Rattle.type_reading.specs.Reading.{type_of};
 
 use expr_tree::{Defined, Expr, Pattern};
@@ -17,12 +17,12 @@ use type_grammar::build_type;
 use vdm_kinds::{OutOfMemory, Place};
 
 /// A token more of a type.
-pub fn collected(tokens: Vec<Token>, token: Token) -> Result<Option<Mode>, OutOfMemory>
-    ensures { IfOk result (λ next. (frames : List FrameView) → state_view next frames ≡ in_mode (typing (token_views tokens.items ++ token_view token ∷ [])) (stack_view frames)) }
+pub fn collected(tokens: Vec<Token>, token: Token) -> Result<Mode, OutOfMemory>
+    ensures { IfOk result (λ mode. mode_view mode ≡ typing (token_views tokens.items ++ token_view token ∷ [])) }
 {
     let mut tokens = tokens;
     tokens.push(token)?;
-    Ok(Some(Mode::Typing(tokens)))
+    Ok(Mode::Typing(tokens))
 }
 
 /// The end of the type that `is_` asks for.

@@ -26,7 +26,7 @@ pub fn type_on(
 {
     match token {
         Token::Plain(word, place) => word_of_type(alloc, tokens, word, place, frames),
-        token => collected(tokens, token),
+        token => Ok(Some(collected(tokens, token)?)),
     }
 }
 
@@ -43,12 +43,12 @@ fn word_of_type(
     match word {
         Word::OpenRound | Word::OpenSquare => {
             pushed(frames, Frame::TypeBracket)?;
-            collected(tokens, Token::Plain(word, place))
+            Ok(Some(collected(tokens, Token::Plain(word, place))?))
         }
         Word::CloseRound => close_type(alloc, tokens, place, frames),
         Word::CloseSquare => close_square_type(tokens, place, frames),
         Word::Operator(sign) => sign_of_type(alloc, tokens, sign, place, frames),
-        word => collected(tokens, Token::Plain(word, place)),
+        word => Ok(Some(collected(tokens, Token::Plain(word, place))?)),
     }
 }
 
@@ -64,7 +64,7 @@ fn sign_of_type(
 {
     match sign {
         Sign::Equal => equal_type(alloc, tokens, frames),
-        sign => collected(tokens, Token::Plain(Word::Operator(sign), place)),
+        sign => Ok(Some(collected(tokens, Token::Plain(Word::Operator(sign), place))?)),
     }
 }
 
@@ -79,7 +79,7 @@ fn close_type(
 {
     match popped(frames) {
         None => Ok(None),
-        Some(Frame::TypeBracket) => collected(tokens, Token::Plain(Word::CloseRound, place)),
+        Some(Frame::TypeBracket) => Ok(Some(collected(tokens, Token::Plain(Word::CloseRound, place))?)),
         Some(Frame::TestType(tree, test_place)) => end_test(alloc, tokens, tree, test_place),
         Some(frame) => {
             frame.discard();
@@ -98,7 +98,7 @@ fn close_square_type(
 {
     match popped(frames) {
         None => Ok(None),
-        Some(Frame::TypeBracket) => collected(tokens, Token::Plain(Word::CloseSquare, place)),
+        Some(Frame::TypeBracket) => Ok(Some(collected(tokens, Token::Plain(Word::CloseSquare, place))?)),
         Some(frame) => {
             frame.discard();
             Ok(None)
