@@ -1,12 +1,14 @@
 -- What an expression becomes where frames end, step by step.
-use Rattle.std.proofs.Common.{◌≡◌, ◌×◌, ℕ, suc, ◌-◌, List, [], ◌∷◌, ◌++◌, length, slice_get, Bool, true, false, if◌then◌else◌, nat_lt, Option, Some, None, MatchOption, refl, ap, sym, ◌∙◌, arith}
+use Rattle.std.proofs.Common.{◌≡◌, ◌×◌, ℕ, suc, ◌-◌, List, [], ◌∷◌, ◌++◌, length, slice_get, Bool, true, false, if◌then◌else◌, nat_lt, Option, Some, None, MatchOption, Result, Ok, Err, IfOk, refl, ap, sym, ◌∙◌, arith}
 use Rattle.abstract_syntax.specs.Expressions.{ExprTree}
 use Rattle.grammar_trees.specs.Frames.{Frame, State, Built}
 use Rattle.grammar_trees.specs.Machine.{pull, completed, word_pull, follow_word, go_on, end_expr}
 use Rattle.grammar_words.specs.declared.word.Word.{Word}
+use Rattle.vdm_kinds.specs.declared.halt.OutOfMemory.{OutOfMemory}
 use Rattle.vdm_kinds.specs.declared.place.Place.{Place}
 use Rattle.tree_frames.specs.declared.frame.Frame.{Frame as Kept}
-use Rattle.tree_frames.specs.Views.{frame_view, stack_view}
+use Rattle.tree_frames.specs.declared.mode.Mode.{Mode}
+use Rattle.tree_frames.specs.Views.{frame_view, stack_view, state_view}
 use Rattle.tree_frames.proofs.Stacks.{stack-push}
 use Rattle.expr_builder.specs.Settling.{Closed, closed, pulls_more, settled, alone}
 
@@ -37,9 +39,14 @@ followed w place e [] = refl
 followed w place e (f ∷ fs) =
     chosen (nat_lt (word_pull w) (pull f)) (settled (word_pull w) (completed f e) fs) (closed e (f ∷ fs)) _ _ (λ (c : Closed). go_on w place c.tree c.frames) (followed w place (completed f e) fs) refl
 
-pub followed-on : (w : Word) (place : Place) (e whole : ExprTree) (old new : List Frame) (n : ℕ) → n ≡ word_pull w → settled n e old ≡ closed whole new → go_on w place whole new ≡ follow_word w place e old
+followed-on : (w : Word) (place : Place) (e whole : ExprTree) (old new : List Frame) (n : ℕ) → n ≡ word_pull w → settled n e old ≡ closed whole new → go_on w place whole new ≡ follow_word w place e old
 followed-on w place e whole old new n is made =
     sym (followed w place e old ∙ ap (λ (c : Closed). go_on w place c.tree c.frames) (ap (λ (k : ℕ). settled k e old) (sym is) ∙ made))
+
+pub followed-by : (r : Result (Option Mode) OutOfMemory) (now : List Kept) (w : Word) (place : Place) (e whole : ExprTree) (old new : List Frame) (n : ℕ) → n ≡ word_pull w → settled n e old ≡ closed whole new
+    → IfOk r (λ next. state_view next now ≡ go_on w place whole new) → IfOk r (λ next. state_view next now ≡ follow_word w place e old)
+followed-by (Ok next) now w place e whole old new n is made h = h ∙ followed-on w place e whole old new n is made
+followed-by (Err x) now w place e whole old new n is made h = tt
 
 -- at the end of the tokens nothing else may be open
 end-alone : (e : ExprTree) (fs : List Frame) → end_expr e fs ≡ alone (settled 0 e fs).tree (settled 0 e fs).frames

@@ -1,9 +1,11 @@
 // Lists, ranges and maps, behind an expression.
 
 ghost use Rattle.std.specs.Prelude.{◌≡◌, List, IfOk, map};
+ghost use Rattle.abstract_syntax.specs.Expressions.{no_exprs, one_expr};
 ghost use Rattle.expr_tree.specs.View.{view_of, views_of, expr_trees, maplet_trees, maplet_view, maybe_view};
 ghost use Rattle.expr_parts.specs.At.{at};
-ghost use Rattle.grammar_trees.specs.Frames.{State, has};
+ghost use Rattle.grammar_trees.specs.Frames.{State, has, set_of, sequence_of};
+ghost use Rattle.grammar_trees.specs.Lists.{and_expr};
 ghost use Rattle.grammar_trees.specs.Machine.{bar, in_mode, closes_list, whole_list, behind_first, behind_item, end_range, behind_maplet, end_condition};
 ghost use Rattle.grammar_trees.specs.Machine.{Stop as StopView};
 ghost use Rattle.tree_nodes.specs.Emptiness.{is_empty_maplets};
@@ -52,22 +54,90 @@ fn behind_first(
 ) -> Result<Option<Mode>, OutOfMemory>
     ensures { IfOk result (λ next. state_view next frames.new.items ≡ behind_first (listed_view listed) (expr_trees (views_of items.items)) (view_of tree.value) place (stop_view stop) (stack_view frames.old.items)) }
 {
-    let first = is_empty(&items);
-    match (listed, first, stop) {
-        (Listed::SetOf, true, Stop::Bar) => {
-            binding(alloc, BindsFor::SetEach(tree), place, frames)
-        }
-        (Listed::SetOf, true, Stop::MapsTo) => {
-            opened(Frame::MapValue(Vec::new(alloc), tree, place), frames)
-        }
-        (Listed::SequenceOf, true, Stop::Bar) => {
-            opened_pattern(Frame::SequenceBound(tree, place), frames)
-        }
-        (listed, _, stop) => {
-            let items = with_expr(items, tree)?;
-            closed_list(alloc, listed, items, place, stop)
-        }
+    if is_empty(&items) {
+        behind_only(alloc, listed, tree, place, stop, frames)
+    } else {
+        closed_with(alloc, listed, items, tree, place, stop)
     }
+}
+
+/// Behind the first item of a list.
+fn behind_only(
+    alloc: Global,
+    listed: Listed,
+    tree: Box<Expr>,
+    place: Place,
+    stop: Stop,
+    frames: &mut Vec<Frame>,
+) -> Result<Option<Mode>, OutOfMemory>
+    ensures { IfOk result (λ next. state_view next frames.new.items ≡ behind_first (listed_view listed) no_exprs (view_of tree.value) place (stop_view stop) (stack_view frames.old.items)) }
+{
+    match listed {
+        Listed::SetOf => behind_element(alloc, tree, place, stop, frames),
+        Listed::SequenceOf => behind_member(alloc, tree, place, stop, frames),
+        listed => closed_item(alloc, listed, tree, place, stop),
+    }
+}
+
+/// Behind the first item of a set: a comprehension, a map, or the end.
+fn behind_element(
+    alloc: Global,
+    tree: Box<Expr>,
+    place: Place,
+    stop: Stop,
+    frames: &mut Vec<Frame>,
+) -> Result<Option<Mode>, OutOfMemory>
+    ensures { IfOk result (λ next. state_view next frames.new.items ≡ behind_first set_of no_exprs (view_of tree.value) place (stop_view stop) (stack_view frames.old.items)) }
+{
+    match stop {
+        Stop::Bar => binding(alloc, BindsFor::SetEach(tree), place, frames),
+        Stop::MapsTo => opened(Frame::MapValue(Vec::new(alloc), tree, place), frames),
+        stop => closed_item(alloc, Listed::SetOf, tree, place, stop),
+    }
+}
+
+/// Behind the first item of a sequence: a comprehension, or the end.
+fn behind_member(
+    alloc: Global,
+    tree: Box<Expr>,
+    place: Place,
+    stop: Stop,
+    frames: &mut Vec<Frame>,
+) -> Result<Option<Mode>, OutOfMemory>
+    ensures { IfOk result (λ next. state_view next frames.new.items ≡ behind_first sequence_of no_exprs (view_of tree.value) place (stop_view stop) (stack_view frames.old.items)) }
+{
+    match stop {
+        Stop::Bar => opened_pattern(Frame::SequenceBound(tree, place), frames),
+        stop => closed_item(alloc, Listed::SequenceOf, tree, place, stop),
+    }
+}
+
+/// The list of one item, where the word closes it.
+fn closed_item(
+    alloc: Global,
+    listed: Listed,
+    tree: Box<Expr>,
+    place: Place,
+    stop: Stop,
+) -> Result<Option<Mode>, OutOfMemory>
+    ensures { IfOk result (λ next. (frames : List FrameView) → state_view next frames ≡ closes_list (listed_view listed) (stop_view stop) (in_mode (has (whole_list (listed_view listed) (one_expr (view_of tree.value) no_exprs) place)) (stack_view frames))) }
+{
+    closed_with(alloc, listed, Vec::new(alloc), tree, place, stop)
+}
+
+/// The list with a last item, where the word closes it.
+fn closed_with(
+    alloc: Global,
+    listed: Listed,
+    items: Vec<Expr>,
+    last: Box<Expr>,
+    place: Place,
+    stop: Stop,
+) -> Result<Option<Mode>, OutOfMemory>
+    ensures { IfOk result (λ next. (frames : List FrameView) → state_view next frames ≡ closes_list (listed_view listed) (stop_view stop) (in_mode (has (whole_list (listed_view listed) (and_expr (expr_trees (views_of items.items)) (view_of last.value)) place)) (stack_view frames))) }
+{
+    let all = with_expr(items, last)?;
+    closed_list(alloc, listed, all, place, stop)
 }
 
 /// The list, where the word closes it.
