@@ -1,7 +1,6 @@
 // Trees that frames become.
 
 ghost use Rattle.std.specs.Prelude.{◌≡◌, IfOk};
-ghost use Rattle.abstract_syntax.specs.Expressions.{prefixed, joined};
 ghost use Rattle.expr_tree.specs.View.{view_of, views_of, expr_trees, pattern_view, pattern_views, pattern_trees};
 ghost use Rattle.grammar_trees.specs.Machine.{enclose, whole_list, whole_patterns, compare, with_body, completed};
 ghost use Rattle.tree_frames.specs.Views.{enclosed_view, listed_view, patterns_for_view, compared_view, body_view, frame_view};
@@ -9,7 +8,7 @@ ghost use Rattle.tree_frames.specs.Views.{enclosed_view, listed_view, patterns_f
 use expr_tree::{Expr, Pattern};
 use std::alloc::Global;
 use tree_frames::{Body, Compared, Enclosed, Frame, Listed, PatternsFor, boxed};
-use vdm_kinds::{OutOfMemory, Place, Sign};
+use vdm_kinds::{OutOfMemory, Place};
 
 /// An expression in round brackets.
 pub fn enclose(
@@ -100,11 +99,7 @@ pub fn with_body(body: Body, last: Box<Expr>, place: Place) -> Expr
 }
 
 /// The tree of a frame that ends with the expression.
-pub fn completed(
-    alloc: Global,
-    frame: Frame,
-    last: Box<Expr>,
-) -> Result<Box<Expr>, OutOfMemory>
+pub fn completed(alloc: Global, frame: Frame, last: Box<Expr>) -> Result<Box<Expr>, OutOfMemory>
     ensures { IfOk result (λ tree. view_of tree.value ≡ completed (frame_view frame) (view_of last.value)) }
 {
     match frame {

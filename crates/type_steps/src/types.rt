@@ -79,7 +79,10 @@ fn close_type(
 {
     match popped(frames) {
         None => Ok(None),
-        Some(Frame::TypeBracket) => Ok(Some(collected(tokens, Token::Plain(Word::CloseRound, place))?)),
+        Some(Frame::TypeBracket) => Ok(Some(collected(
+            tokens,
+            Token::Plain(Word::CloseRound, place),
+        )?)),
         Some(Frame::TestType(tree, test_place)) => end_test(alloc, tokens, tree, test_place),
         Some(frame) => {
             frame.discard();
@@ -98,7 +101,10 @@ fn close_square_type(
 {
     match popped(frames) {
         None => Ok(None),
-        Some(Frame::TypeBracket) => Ok(Some(collected(tokens, Token::Plain(Word::CloseSquare, place))?)),
+        Some(Frame::TypeBracket) => Ok(Some(collected(
+            tokens,
+            Token::Plain(Word::CloseSquare, place),
+        )?)),
         Some(frame) => {
             frame.discard();
             Ok(None)
