@@ -1,6 +1,6 @@
 // Frames that end before what stands behind an expression.
 
-ghost use Rattle.std.specs.Prelude.{◌≡◌, ◌×◌, ◌∷◌, ◌<◌, true, false, length, IfOk, MatchOption, OnSome};
+ghost use Rattle.std.specs.Prelude.{◌≡◌, ◌∷◌, ◌<◌, true, false, length, IfOk, MatchOption, OnSome};
 ghost use Rattle.expr_tree.specs.View.{view_of};
 ghost use Rattle.expr_builder.specs.Settling.{closed, pulls_more, settled};
 ghost use Rattle.tree_frames.specs.Views.{frame_view, stack_view};

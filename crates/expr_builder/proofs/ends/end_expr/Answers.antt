@@ -1,6 +1,6 @@
 use Rattle.std.proofs.Common.{ap, ◌∙◌}
 use Rattle.grammar_trees.specs.Reading.{built_expr}
-use Rattle.expr_builder.proofs.Settling.{ended-on}
+use Rattle.expr_builder.proofs.Ending.{ended-on}
 use Rattle.expr_builder.proofs.ends.end_expr.Goals as goal
 
 pub returns-in-Has : goal.returns-in-Has

@@ -1,6 +1,6 @@
 use Rattle.expr_tree.specs.View.{view_of}
 use Rattle.tree_frames.specs.Views.{stack_view}
-use Rattle.expr_builder.proofs.Settling.{followed-by}
+use Rattle.expr_builder.proofs.Ending.{followed-by}
 use Rattle.expr_builder.proofs.follow.follow_word.Goals as goal
 
 pub returns : goal.returns

@@ -1,7 +1,7 @@
 use Rattle.std.proofs.Common.{◌≡◌, true}
 use Rattle.expr_builder.specs.Settling.{pulls_more}
 use Rattle.tree_frames.specs.Views.{stack_view}
-use Rattle.expr_builder.proofs.Settling.{pulled-off}
+use Rattle.expr_builder.proofs.Ending.{pulled-off}
 use Rattle.expr_builder.proofs.settling.pulling.Goals as goal
 
 pub returns-then-clause-frame : goal.returns-then-clause-frame

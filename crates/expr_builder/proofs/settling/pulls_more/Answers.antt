@@ -1,4 +1,4 @@
-use Rattle.expr_builder.proofs.Settling.{last-pulls}
+use Rattle.expr_builder.proofs.Ending.{last-pulls}
 use Rattle.expr_builder.proofs.settling.pulls_more.Goals as goal
 
 pub returns-in-Some : goal.returns-in-Some
