@@ -7,8 +7,9 @@ ghost use Rattle.grammar_trees.specs.Machine.{in_mode, step};
 ghost use Rattle.tree_frames.specs.Views.{mode_view, stack_view, state_view};
 
 use crate::follow::follow;
-use expr_starts::{awaited, want, want_pattern};
+use expr_starts::{want, want_pattern};
 use grammar_tokens::Token;
+use header_steps::awaited;
 use pattern_steps::follow_pattern;
 use std::alloc::Global;
 use tree_frames::{Frame, Mode};

@@ -1,14 +1,9 @@
 -- Lists that are not empty.
 use Rattle.std.proofs.Common.{◌≡◌, ◌≤◌, List, [], ◌∷◌, length, map, false, refl, arith}
-use Rattle.expr_tree.specs.declared.expr.Expr.{Expr}
 use Rattle.expr_tree.specs.declared.parts.Case.{Case}
 use Rattle.expr_tree.specs.declared.pattern.Pattern.{Pattern}
-use Rattle.expr_tree.specs.View.{expr_trees, views_of, pattern_trees, pattern_views, case_trees, case_view}
-use Rattle.expr_starts.specs.Emptiness.{is_empty_exprs, is_empty_patterns, is_empty_cases}
-
-pub exprs-more : (items : List Expr) → 1 ≤ length items → false ≡ is_empty_exprs (expr_trees (views_of items))
-exprs-more [] h = absurd (omega arith)
-exprs-more (item ∷ items) h = refl
+use Rattle.expr_tree.specs.View.{pattern_trees, pattern_views, case_trees, case_view}
+use Rattle.tree_nodes.specs.Emptiness.{is_empty_patterns, is_empty_cases}
 
 pub patterns-more : (items : List Pattern) → 1 ≤ length items → false ≡ is_empty_patterns (pattern_trees (pattern_views items))
 patterns-more [] h = absurd (omega arith)

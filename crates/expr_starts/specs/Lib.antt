@@ -1,1 +1,1 @@
-pub mod Emptiness
+pub mod Innermost

@@ -1,162 +1,96 @@
 // What closes or ends where an item of a list is wanted.
 
-ghost use Rattle.std.specs.Prelude.{◌≡◌, List, IfOk, MatchOption};
-ghost use Rattle.abstract_syntax.specs.Expressions.{one_expr, no_exprs};
-ghost use Rattle.expr_tree.specs.View.{view_of, expr_trees, views_of};
-ghost use Rattle.grammar_trees.specs.Machine.{in_mode, in_items, empty_curly, empty_square, empty_round, empty_maps_to, dots_behind};
+ghost use Rattle.std.specs.Prelude.{◌≡◌, List, IfOk};
+ghost use Rattle.expr_tree.specs.View.{view_of};
 ghost use Rattle.grammar_trees.specs.Frames.{awaits, comma_then, range_end};
-ghost use Rattle.expr_starts.specs.Emptiness.{is_empty_exprs, IsNotOnly};
+ghost use Rattle.grammar_trees.specs.Machine.{in_mode, in_items, empty_curly, empty_square, empty_round, empty_maps_to, dots_behind};
 ghost use Rattle.tree_frames.specs.declared.frame.Frame.{Frame as FrameView};
-ghost use Rattle.tree_frames.specs.Views.{listed_view, ranged_view, stack_view, state_view};
+ghost use Rattle.tree_frames.specs.Views.{ranged_view, stack_view, state_view};
 
-use crate::openings::awaiting;
+use crate::lists::{EmptyList, ListOfOne, empty_list, list_of_one};
+use crate::nodes::read;
 use expr_tree::Expr;
 use std::alloc::Global;
-use tree_frames::{Frame, Header, Listed, Mode, Ranged, popped};
+use tree_frames::{Frame, Header, Listed, Mode, Ranged};
+use tree_nodes::awaiting;
 use vdm_kinds::{OutOfMemory, Place};
 
-/// Whether there is no expression.
-fn is_empty(items: &[Expr]) -> bool
-    ensures { result ≡ is_empty_exprs (expr_trees (views_of items.now)) }
+/// `}` where an expression is wanted: of the set without an element.
+pub fn close_curly(alloc: Global, frames: &mut Vec<Frame>) -> Result<Option<Mode>, OutOfMemory>
+    ensures { IfOk result (λ next. state_view next frames.new.items ≡ in_items empty_curly (stack_view frames.old.items)) }
 {
-    match items {
-        [] => true,
-        _ => false,
-    }
-}
-
-/// `}` where an expression is wanted.
-pub fn close_curly(frames: &mut Vec<Frame>) -> Option<Mode>
-    ensures { state_view result frames.new.items ≡ in_items empty_curly (stack_view frames.old.items) }
-{
-    match popped(frames) {
-        Some(Frame::Items(listed, items, place)) => empty_curly(listed, items, place),
-        _ => None,
-    }
-}
-
-/// `]` where an expression is wanted.
-pub fn close_square(frames: &mut Vec<Frame>) -> Option<Mode>
-    ensures { state_view result frames.new.items ≡ in_items empty_square (stack_view frames.old.items) }
-{
-    match popped(frames) {
-        Some(Frame::Items(listed, items, place)) => empty_square(listed, items, place),
-        _ => None,
-    }
-}
-
-/// `)` where an expression is wanted.
-pub fn close_round(frames: &mut Vec<Frame>) -> Option<Mode>
-    ensures { state_view result frames.new.items ≡ in_items empty_round (stack_view frames.old.items) }
-{
-    match popped(frames) {
-        Some(Frame::Items(listed, items, place)) => empty_round(listed, items, place),
-        _ => None,
-    }
-}
-
-/// `|->` where an expression is wanted.
-pub fn maps_to(frames: &mut Vec<Frame>) -> Option<Mode>
-    ensures { state_view result frames.new.items ≡ in_items empty_maps_to (stack_view frames.old.items) }
-{
-    match popped(frames) {
-        Some(Frame::Items(listed, items, place)) => empty_maps_to(listed, items, place),
-        _ => None,
-    }
-}
-
-/// `...` where an expression is wanted.
-pub fn dots(alloc: Global, frames: &mut Vec<Frame>) -> Result<Option<Mode>, OutOfMemory>
-    ensures { IfOk result (λ next. state_view next frames.new.items ≡ in_items dots_behind (stack_view frames.old.items)) }
-{
-    match popped(frames) {
-        Some(Frame::Items(listed, items, place)) => dots_behind(alloc, listed, items, place),
+    let Some(EmptyList { listed, place }) = empty_list(frames) else {
+        return Ok(None);
+    };
+    match listed {
+        Listed::SetOf => read(alloc, Expr::set_enumeration(Vec::new(alloc), place)),
         _ => Ok(None),
     }
 }
 
-/// The set without an element.
-fn empty_curly(listed: Listed, items: Vec<Expr>, place: Place) -> Option<Mode>
-    ensures { (frames : List FrameView) → state_view result frames ≡ empty_curly (listed_view listed) (expr_trees (views_of items.items)) place (stack_view frames) }
+/// `]` where an expression is wanted: of the sequence without an item.
+pub fn close_square(alloc: Global, frames: &mut Vec<Frame>) -> Result<Option<Mode>, OutOfMemory>
+    ensures { IfOk result (λ next. state_view next frames.new.items ≡ in_items empty_square (stack_view frames.old.items)) }
 {
-    let empty = is_empty(&items);
-    match (listed, empty) {
-        (Listed::SetOf, true) => Some(Mode::Has(Expr::set_enumeration(items, place))),
-        _ => None,
-    }
-}
-
-/// The sequence without an item.
-fn empty_square(listed: Listed, items: Vec<Expr>, place: Place) -> Option<Mode>
-    ensures { (frames : List FrameView) → state_view result frames ≡ empty_square (listed_view listed) (expr_trees (views_of items.items)) place (stack_view frames) }
-{
-    let empty = is_empty(&items);
-    match (listed, empty) {
-        (Listed::SequenceOf, true) => Some(Mode::Has(Expr::sequence_enumeration(items, place))),
-        _ => None,
-    }
-}
-
-/// The record without a field, and the call without an argument.
-fn empty_round(listed: Listed, items: Vec<Expr>, place: Place) -> Option<Mode>
-    ensures { (frames : List FrameView) → state_view result frames ≡ empty_round (listed_view listed) (expr_trees (views_of items.items)) place (stack_view frames) }
-{
-    let empty = is_empty(&items);
-    match (listed, empty) {
-        (Listed::RecordOf(type_name), true) => {
-            Some(Mode::Has(Expr::make_record(type_name, items, place)))
-        }
-        (Listed::NewOf(class, class_place), true) => {
-            Some(Mode::Has(Expr::create(class, class_place, items, place)))
-        }
-        (Listed::AppliedTo(head), true) => Some(Mode::Has(Expr::apply(head, items, place))),
-        _ => None,
-    }
-}
-
-/// The map without a pair, whose `}` is still to come.
-fn empty_maps_to(listed: Listed, items: Vec<Expr>, place: Place) -> Option<Mode>
-    ensures { (frames : List FrameView) → state_view result frames ≡ empty_maps_to (listed_view listed) (expr_trees (views_of items.items)) place (stack_view frames) }
-{
-    let empty = is_empty(&items);
-    match (listed, empty) {
-        (Listed::SetOf, true) => awaiting(Header::EmptyMapEnd(place)),
-        _ => None,
-    }
-}
-
-/// A range, whose first number was read.
-fn dots_behind(
-    alloc: Global,
-    listed: Listed,
-    items: Vec<Expr>,
-    place: Place,
-) -> Result<Option<Mode>, OutOfMemory>
-    ensures { IfOk result (λ next. (frames : List FrameView) → state_view next frames ≡ dots_behind (listed_view listed) (expr_trees (views_of items.items)) place (stack_view frames)) }
-{
-    let Some(first) = only(items) else {
+    let Some(EmptyList { listed, place }) = empty_list(frames) else {
         return Ok(None);
     };
-    let first = Box::new(alloc, first)?;
     match listed {
-        Listed::SetOf => Ok(range(Ranged::InSet, first, place)),
-        Listed::AppliedTo(head) => Ok(range(Ranged::PartOfSequence(head), first, place)),
+        Listed::SequenceOf => read(alloc, Expr::sequence_enumeration(Vec::new(alloc), place)),
+        _ => Ok(None),
+    }
+}
+
+/// `)` where an expression is wanted: of the record without a field, and the call without an argument.
+pub fn close_round(alloc: Global, frames: &mut Vec<Frame>) -> Result<Option<Mode>, OutOfMemory>
+    ensures { IfOk result (λ next. state_view next frames.new.items ≡ in_items empty_round (stack_view frames.old.items)) }
+{
+    let Some(EmptyList { listed, place }) = empty_list(frames) else {
+        return Ok(None);
+    };
+    match listed {
+        Listed::RecordOf(name) => read(alloc, Expr::make_record(name, Vec::new(alloc), place)),
+        Listed::NewOf(class, at) => read(alloc, Expr::create(class, at, Vec::new(alloc), place)),
+        Listed::AppliedTo(head) => read(alloc, Expr::apply(head, Vec::new(alloc), place)),
+        _ => Ok(None),
+    }
+}
+
+/// `|->` where an expression is wanted: of the map without a pair, whose `}` is still to come.
+pub fn maps_to(frames: &mut Vec<Frame>) -> Option<Mode>
+    ensures { state_view result frames.new.items ≡ in_items empty_maps_to (stack_view frames.old.items) }
+{
+    let EmptyList { listed, place } = empty_list(frames)?;
+    match listed {
+        Listed::SetOf => awaiting(Header::EmptyMapEnd(place)),
+        _ => None,
+    }
+}
+
+/// `...` where an expression is wanted: of a range, whose first number was read.
+pub fn dots(alloc: Global, frames: &mut Vec<Frame>) -> Result<Option<Mode>, OutOfMemory>
+    ensures { IfOk result (λ next. state_view next frames.new.items ≡ in_items dots_behind (stack_view frames.old.items)) }
+{
+    let Some(
+        ListOfOne {
+            listed,
+            first,
+            place,
+        },
+    ) = list_of_one(alloc, frames)?
+    else {
+        return Ok(None);
+    };
+    match listed {
+        Listed::SetOf => Ok(ranging(Ranged::InSet, first, place)),
+        Listed::AppliedTo(head) => Ok(ranging(Ranged::PartOfSequence(head), first, place)),
         _ => Ok(None),
     }
 }
 
 /// The last of a range is wanted, behind a `,`.
-fn range(ranged: Ranged, first: Box<Expr>, place: Place) -> Option<Mode>
+fn ranging(ranged: Ranged, first: Box<Expr>, place: Place) -> Option<Mode>
     ensures { (frames : List FrameView) → state_view result frames ≡ in_mode (awaits (comma_then (range_end (ranged_view ranged) (view_of first.value) place))) (stack_view frames) }
 {
     awaiting(Header::CommaThen(Frame::RangeEnd(ranged, first, place)))
-}
-
-/// The only expression, where there is just one.
-fn only(items: Vec<Expr>) -> Option<Expr>
-    ensures { MatchOption result (IsNotOnly (expr_trees (views_of items.items))) (λ first. expr_trees (views_of items.items) ≡ one_expr (view_of first) no_exprs) }
-{
-    let mut items = items;
-    let last = items.pop()?;
-    if is_empty(&items) { Some(last) } else { None }
 }

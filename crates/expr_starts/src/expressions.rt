@@ -11,12 +11,13 @@ ghost use Rattle.tree_frames.specs.Views.{stack_view, state_view};
 
 use crate::closings::{close_curly, close_round, close_square, dots, maps_to};
 use crate::forms::want_form;
-use crate::openings::{awaiting, opened};
+use crate::nodes::read;
 use expr_tree::{Expr, Literal};
 use grammar_tokens::Token;
 use grammar_words::Word;
 use std::alloc::Global;
 use tree_frames::{Enclosed, Frame, Header, Listed, Mode, TypeNameFor};
+use tree_nodes::{awaiting, opened};
 use vdm_kinds::{Grouping, OutOfMemory, Place, Sign};
 
 /// A token where an expression is wanted.
@@ -28,11 +29,11 @@ pub fn want(
     ensures { IfOk result (λ next. state_view next frames.new.items ≡ want (token_view token) (stack_view frames.old.items)) }
 {
     match token {
-        Token::Identifier(name, place) => Ok(Some(Mode::Has(Expr::name(name, place)))),
-        Token::Quote(name, place) => Ok(literal(Literal::Quote(name), place)),
-        Token::Whole(number, place) => Ok(literal(Literal::Whole(number), place)),
-        Token::Character(c, place) => Ok(literal(Literal::Character(c), place)),
-        Token::Text(characters, place) => Ok(literal(Literal::Text(characters), place)),
+        Token::Identifier(name, place) => read(alloc, Expr::name(name, place)),
+        Token::Quote(name, place) => literal(alloc, Literal::Quote(name), place),
+        Token::Whole(number, place) => literal(alloc, Literal::Whole(number), place),
+        Token::Character(c, place) => literal(alloc, Literal::Character(c), place),
+        Token::Text(characters, place) => literal(alloc, Literal::Text(characters), place),
         Token::MakeNamed(name, place) => {
             Ok(awaiting(Header::TypeAfter(TypeNameFor::Made, name, place)))
         }
@@ -44,10 +45,10 @@ pub fn want(
 }
 
 /// A literal was read.
-fn literal(value: Literal, place: Place) -> Option<Mode>
-    ensures { (frames : List FrameView) → state_view result frames ≡ in_mode (has (literal (literal_view value) place)) (stack_view frames) }
+fn literal(alloc: Global, value: Literal, place: Place) -> Result<Option<Mode>, OutOfMemory>
+    ensures { IfOk result (λ next. (frames : List FrameView) → state_view next frames ≡ in_mode (has (literal (literal_view value) place)) (stack_view frames)) }
 {
-    Some(Mode::Has(Expr::literal(value, place)))
+    read(alloc, Expr::literal(value, place))
 }
 
 /// A word where an expression is wanted.
@@ -60,13 +61,13 @@ fn want_word(
     ensures { IfOk result (λ next. state_view next frames.new.items ≡ want_word word place (stack_view frames.old.items)) }
 {
     match word {
-        Word::True => Ok(literal(Literal::Bool(true), place)),
-        Word::False => Ok(literal(Literal::Bool(false), place)),
-        Word::Nil => Ok(literal(Literal::Nil, place)),
-        Word::SelfWord => Ok(Some(Mode::Has(Expr::SelfObject(place)))),
-        Word::Time => Ok(Some(Mode::Has(Expr::Time(place)))),
-        Word::Undefined => Ok(Some(Mode::Has(Expr::Undefined(place)))),
-        Word::Result => Ok(Some(Mode::Has(Expr::Result(place)))),
+        Word::True => literal(alloc, Literal::Bool(true), place),
+        Word::False => literal(alloc, Literal::Bool(false), place),
+        Word::Nil => literal(alloc, Literal::Nil, place),
+        Word::SelfWord => read(alloc, Expr::SelfObject(place)),
+        Word::Time => read(alloc, Expr::Time(place)),
+        Word::Undefined => read(alloc, Expr::Undefined(place)),
+        Word::Result => read(alloc, Expr::Result(place)),
         Word::Operator(sign) => want_operand(as_prefix(sign), place, frames),
         Word::OpenRound => opened(Frame::Enclosed(Enclosed::Bracket, place), frames),
         Word::OpenCurly => opened(Frame::Items(Listed::SetOf, Vec::new(alloc), place), frames),
@@ -76,9 +77,9 @@ fn want_word(
                 frames,
             )
         }
-        Word::CloseCurly => Ok(close_curly(frames)),
-        Word::CloseSquare => Ok(close_square(frames)),
-        Word::CloseRound => Ok(close_round(frames)),
+        Word::CloseCurly => close_curly(alloc, frames),
+        Word::CloseSquare => close_square(alloc, frames),
+        Word::CloseRound => close_round(alloc, frames),
         Word::MapsTo => Ok(maps_to(frames)),
         Word::Dots => dots(alloc, frames),
         _ => want_form(alloc, word, place, frames),

@@ -1,16 +1,15 @@
 // What a word begins that is written before its parts.
 
-ghost use Rattle.std.specs.Prelude.{◌≡◌, ◌∷◌, List, IfOk};
-ghost use Rattle.abstract_syntax.specs.Expressions.{no_binds, no_patterns};
-ghost use Rattle.grammar_trees.specs.Frames.{wants_pattern, awaits, opens, enclosed, left_class, bind_patterns};
+ghost use Rattle.std.specs.Prelude.{◌≡◌, List, IfOk};
+ghost use Rattle.grammar_trees.specs.Frames.{awaits, opens, enclosed, left_class};
 ghost use Rattle.grammar_trees.specs.Machine.{in_mode, want_form, want_far};
 ghost use Rattle.tree_frames.specs.declared.frame.Frame.{Frame as FrameView};
-ghost use Rattle.tree_frames.specs.Views.{enclosed_view, compared_view, binds_for_view, stack_view, state_view};
+ghost use Rattle.tree_frames.specs.Views.{enclosed_view, compared_view, stack_view, state_view};
 
-use crate::openings::{awaiting, opened, opened_pattern};
 use grammar_words::Word;
 use std::alloc::Global;
 use tree_frames::{BindsFor, Compared, Enclosed, Frame, Header, Mode};
+use tree_nodes::{awaiting, binding, opened, opened_pattern};
 use vdm_kinds::{OutOfMemory, Place};
 
 /// A form that begins with a word and a bracket.
@@ -72,19 +71,4 @@ fn want_far(
         Word::Iota => binding(alloc, BindsFor::TheOne, place, frames),
         _ => Ok(None),
     }
-}
-
-/// Binds are wanted.
-pub fn binding(
-    alloc: Global,
-    purpose: BindsFor,
-    place: Place,
-    frames: &mut Vec<Frame>,
-) -> Result<Option<Mode>, OutOfMemory>
-    ensures { IfOk result (λ next. state_view next frames.new.items ≡ in_mode wants_pattern (bind_patterns (binds_for_view purpose) no_binds no_patterns place ∷ stack_view frames.old.items)) }
-{
-    opened_pattern(
-        Frame::BindPatterns(purpose, Vec::new(alloc), Vec::new(alloc), place),
-        frames,
-    )
 }

@@ -1,15 +1,14 @@
-//! What a token begins where an expression or a pattern is wanted, and how forms go on that begin with single tokens.
+//! What a token begins where an expression or a pattern is wanted.
 #![tactic(auto)]
 
-mod await_names;
-mod await_words;
+mod cases;
 mod closings;
 mod expressions;
 mod forms;
-mod openings;
+mod lists;
+mod nodes;
+mod pattern_closings;
 mod patterns;
 
-pub use await_words::awaited;
 pub use expressions::want;
-pub use openings::{awaiting, opened, opened_pattern};
 pub use patterns::want_pattern;

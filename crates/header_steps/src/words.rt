@@ -6,13 +6,15 @@ ghost use Rattle.grammar_trees.specs.Machine.{awaited_word, awaited_sign, after_
 ghost use Rattle.tree_frames.specs.declared.frame.Frame.{Frame as FrameView};
 ghost use Rattle.tree_frames.specs.Views.{header_view, type_name_for_view, stack_view, state_view};
 
-use crate::await_names::{awaited_name, awaited_number};
-use crate::openings::{awaiting, opened, opened_pattern};
+use crate::entering::{entered, entered_pattern, is_arrow, is_comma, is_maps_to, is_open, is_st};
+use crate::names::{awaited_name, awaited_number};
+use crate::nodes::read;
 use expr_tree::{Expr, Pattern};
 use grammar_tokens::Token;
 use grammar_words::Word;
 use std::alloc::Global;
 use tree_frames::{Enclosed, Frame, Header, Listed, Mode, PatternsFor, TypeNameFor};
+use tree_nodes::{awaiting, opened, opened_pattern};
 use vdm_kinds::{Counter, Name, NameAt, OutOfMemory, Place, TypeName};
 
 /// A token where a form goes on with a single token.
@@ -26,9 +28,12 @@ pub fn awaited(
 {
     match token {
         Token::Identifier(name, place) => awaited_name(alloc, header, name, place),
-        Token::Whole(number, _place) => Ok(awaited_number(header, number)),
+        Token::Whole(number, _place) => awaited_number(alloc, header, number),
         Token::Plain(word, _place) => awaited_word(alloc, header, word, frames),
-        _ => Ok(None),
+        _token => {
+            header.discard();
+            Ok(None)
+        }
     }
 }
 
@@ -42,67 +47,54 @@ fn awaited_word(
     ensures { IfOk result (λ next. state_view next frames.new.items ≡ awaited_word (header_view header) word (stack_view frames.old.items)) }
 {
     match header {
-        Header::Opens(frame) => match word {
-            Word::OpenRound => opened(frame, frames),
-            _ => Ok(None),
-        },
-        Header::CommaThen(frame) => match word {
-            Word::Comma => opened(frame, frames),
-            _ => Ok(None),
-        },
-        Header::StThen(frame) => match word {
-            Word::St => opened(frame, frames),
-            _ => Ok(None),
-        },
-        Header::ArrowThen(frame) => match word {
-            Word::Arrow => opened(frame, frames),
-            _ => Ok(None),
-        },
-        Header::OpensPattern(frame) => match word {
-            Word::OpenRound => opened_pattern(frame, frames),
-            _ => Ok(None),
-        },
+        Header::Opens(frame) => entered(is_open(word), frame, frames),
+        Header::CommaThen(frame) => entered(is_comma(word), frame, frames),
+        Header::StThen(frame) => entered(is_st(word), frame, frames),
+        Header::ArrowThen(frame) => entered(is_arrow(word), frame, frames),
+        Header::OpensPattern(frame) => entered_pattern(is_open(word), frame, frames),
         Header::TypeAfter(purpose, name, place) => {
             after_type_name(alloc, word, purpose, name, place, frames)
         }
-        Header::FieldArrow(target, fields, name, name_place, place) => match word {
-            Word::MapsTo => opened(
-                Frame::FieldValue(target, fields, name, name_place, place),
-                frames,
-            ),
-            _ => Ok(None),
-        },
-        _ => Ok(awaited_sign(alloc, header, word)),
+        Header::FieldArrow(target, fields, name, name_place, place) => {
+            let frame = Frame::FieldValue(target, fields, name, name_place, place);
+            entered(is_maps_to(word), frame, frames)
+        }
+        header => awaited_sign(alloc, header, word),
     }
 }
 
 /// A word where a form goes on with nothing to be read in brackets.
-fn awaited_sign(alloc: Global, header: Header, word: Word) -> Option<Mode>
-    ensures { (frames : List FrameView) → state_view result frames ≡ awaited_sign (header_view header) word (stack_view frames) }
+fn awaited_sign(alloc: Global, header: Header, word: Word) -> Result<Option<Mode>, OutOfMemory>
+    ensures { IfOk result (λ next. (frames : List FrameView) → state_view next frames ≡ awaited_sign (header_view header) word (stack_view frames)) }
 {
     match header {
         Header::CounterOpens(counter, place) => match word {
-            Word::OpenRound => awaiting(Header::CounterName(counter, Vec::new(alloc), place)),
-            _ => None,
+            Word::OpenRound => Ok(awaiting(Header::CounterName(counter, Vec::new(alloc), place))),
+            _ => Ok(None),
         },
-        Header::CounterNext(counter, names, place) => after_counted(word, counter, names, place),
+        Header::CounterNext(counter, names, place) => {
+            after_counted(alloc, word, counter, names, place)
+        }
         Header::ClassOpens(place) => match word {
-            Word::OpenRound => awaiting(Header::ClassName(place)),
-            _ => None,
+            Word::OpenRound => Ok(awaiting(Header::ClassName(place))),
+            _ => Ok(None),
         },
         Header::BaseClassOpens(place) => match word {
-            Word::OpenRound => awaiting(Header::BaseClassName(place)),
-            _ => None,
+            Word::OpenRound => Ok(awaiting(Header::BaseClassName(place))),
+            _ => Ok(None),
         },
         Header::EmptyMapEnd(place) => match word {
-            Word::CloseCurly => Some(Mode::Has(Expr::EmptyMap(place))),
-            _ => None,
+            Word::CloseCurly => read(alloc, Expr::EmptyMap(place)),
+            _ => Ok(None),
         },
         Header::EmptyPatternEnd(place) => match word {
-            Word::CloseCurly => Some(Mode::HasPattern(Pattern::EmptyMap(place))),
-            _ => None,
+            Word::CloseCurly => Ok(Some(Mode::HasPattern(Pattern::EmptyMap(place)))),
+            _ => Ok(None),
         },
-        _ => None,
+        header => {
+            header.discard();
+            Ok(None)
+        }
     }
 }
 
@@ -160,12 +152,18 @@ fn enter_named(
 }
 
 /// A word behind a name that is counted.
-fn after_counted(word: Word, counter: Counter, names: Vec<NameAt>, place: Place) -> Option<Mode>
-    ensures { (frames : List FrameView) → state_view result frames ≡ after_counted word counter names.items place (stack_view frames) }
+fn after_counted(
+    alloc: Global,
+    word: Word,
+    counter: Counter,
+    names: Vec<NameAt>,
+    place: Place,
+) -> Result<Option<Mode>, OutOfMemory>
+    ensures { IfOk result (λ next. (frames : List FrameView) → state_view next frames ≡ after_counted word counter names.items place (stack_view frames)) }
 {
     match word {
-        Word::Comma => awaiting(Header::CounterName(counter, names, place)),
-        Word::CloseRound => Some(Mode::Has(Expr::history(counter, names, place))),
-        _ => None,
+        Word::Comma => Ok(awaiting(Header::CounterName(counter, names, place))),
+        Word::CloseRound => read(alloc, Expr::history(counter, names, place)),
+        _ => Ok(None),
     }
 }

@@ -6,10 +6,11 @@ ghost use Rattle.grammar_trees.specs.Machine.{in_mode, awaited_name, awaited_num
 ghost use Rattle.tree_frames.specs.declared.frame.Frame.{Frame as FrameView};
 ghost use Rattle.tree_frames.specs.Views.{enclosed_view, header_view, type_name_for_view, stack_view, state_view};
 
-use crate::openings::awaiting;
+use crate::nodes::read;
 use expr_tree::Expr;
 use std::alloc::Global;
 use tree_frames::{Enclosed, Frame, Header, Listed, Mode, PatternsFor, TypeNameFor};
+use tree_nodes::awaiting;
 use vdm_kinds::{Counter, Name, NameAt, OutOfMemory, Place, TypeName};
 
 /// A name where a form goes on.
@@ -30,15 +31,12 @@ pub fn awaited_name(
             };
             Ok(awaiting(opens_named(alloc, purpose, type_name, at)))
         }
-        Header::QualifiedRest(class, at) => {
-            Ok(Some(Mode::Has(Expr::qualified(class, name, place, at))))
+        Header::QualifiedRest(class, at) => read(alloc, Expr::qualified(class, name, place, at)),
+        Header::MemberOf(target, at) => read(alloc, Expr::select(target, name, place, at)),
+        Header::MemberRest(target, class, class_place, at) => {
+            let tree = Expr::select_of_class(target, class, class_place, name, place, at);
+            read(alloc, tree)
         }
-        Header::MemberOf(target, at) => {
-            Ok(Some(Mode::Has(Expr::select(target, name, place, at))))
-        }
-        Header::MemberRest(target, class, class_place, at) => Ok(Some(Mode::Has(
-            Expr::select_of_class(target, class, class_place, name, place, at),
-        ))),
         Header::NewName(at) => {
             let listed = Listed::NewOf(name, place);
             let frame = Frame::Items(listed, Vec::new(alloc), at);
@@ -50,7 +48,10 @@ pub fn awaited_name(
         Header::FieldName(target, fields, at) => {
             Ok(awaiting(Header::FieldArrow(target, fields, name, place, at)))
         }
-        _ => Ok(None),
+        header => {
+            header.discard();
+            Ok(None)
+        }
     }
 }
 
@@ -97,11 +98,18 @@ fn opens_named(alloc: Global, purpose: TypeNameFor, type_name: TypeName, place: 
 }
 
 /// A number where a form goes on: of a part, behind `.#`.
-pub fn awaited_number(header: Header, number: i128) -> Option<Mode>
-    ensures { (frames : List FrameView) → state_view result frames ≡ awaited_number (header_view header) number (stack_view frames) }
+pub fn awaited_number(
+    alloc: Global,
+    header: Header,
+    number: i128,
+) -> Result<Option<Mode>, OutOfMemory>
+    ensures { IfOk result (λ next. (frames : List FrameView) → state_view next frames ≡ awaited_number (header_view header) number (stack_view frames)) }
 {
     match header {
-        Header::PartOf(target, place) => Some(Mode::Has(Expr::select_part(target, number, place))),
-        _ => None,
+        Header::PartOf(target, place) => read(alloc, Expr::select_part(target, number, place)),
+        header => {
+            header.discard();
+            Ok(None)
+        }
     }
 }
