@@ -5,7 +5,7 @@ use Rattle.vdm_kinds.specs.declared.place.Place.{Place}
 use Rattle.abstract_syntax.specs.Expressions.{ExprTree, ExprTrees, no_exprs, one_expr}
 use Rattle.expr_tree.specs.declared.parts.Maplet.{Maplet}
 use Rattle.expr_tree.specs.View.{maplet_trees, maplet_view}
-use Rattle.grammar_trees.specs.Frames.{Frame, Listed, State, has, set_of, sequence_of, tuple_of, record_of, new_of, applied_to}
+use Rattle.grammar_trees.specs.Frames.{Frame, Listed, has, set_of, sequence_of, tuple_of, record_of, new_of, applied_to}
 use Rattle.grammar_trees.specs.Lists.{and_expr}
 use Rattle.grammar_trees.specs.Machine.{Stop, behind_first, closes_list, whole_list, in_mode}
 use Rattle.tree_frames.specs.declared.frame.Frame.{Frame as Kept}
