@@ -29,9 +29,12 @@ settled-on behind e whole f old new more is made =
     ∙ sym (ap (settled behind e) is)
 
 -- no frame ends
-pub settled-end : (behind : ℕ) (e : ExprTree) (fs : List Frame) → pulls_more behind fs ≡ false → settled behind e fs ≡ closed e fs
+settled-end : (behind : ℕ) (e : ExprTree) (fs : List Frame) → pulls_more behind fs ≡ false → settled behind e fs ≡ closed e fs
 settled-end behind e [] h = refl
 settled-end behind e (f ∷ fs) h = ap (λ (b : Bool). if b then settled behind (completed f e) fs else closed e (f ∷ fs)) h
+
+pub settled-done : (behind : ℕ) (e first : ExprTree) (fs all now : List Frame) → settled behind e fs ≡ settled behind first all → pulls_more behind fs ≡ false → now ≡ fs → settled behind first all ≡ closed e now
+settled-done behind e first fs all now same none kept = sym same ∙ settled-end behind e fs none ∙ ap (closed e) (sym kept)
 
 -- a word goes on behind what ends before it
 followed : (w : Word) (place : Place) (e : ExprTree) (fs : List Frame) → follow_word w place e fs ≡ go_on w place (settled (word_pull w) e fs).tree (settled (word_pull w) e fs).frames

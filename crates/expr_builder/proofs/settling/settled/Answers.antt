@@ -1,0 +1,9 @@
+use Rattle.std.proofs.Common.{◌∙◌}
+use Rattle.expr_builder.proofs.Ending.{settled-done, settled-on}
+use Rattle.expr_builder.proofs.settling.settled.Goals as goal
+
+pub loop-frame-preserved : goal.loop-frame-preserved
+loop-frame-preserved c = settled-on _ _ _ _ _ _ c.in-Some.ensures.frame.0 c.in-Some.ensures.frame.1 c.in_ok-tree.ensures ∙ c.loop-frame.invariant
+
+pub returns : goal.returns
+returns c = let last = rw c.in_default.is at c.pulling.ensures.frame in settled-done _ _ _ _ _ _ c.loop-frame.invariant last.0 last.1
