@@ -1,2 +1,1 @@
 pub mod Emptiness
-pub mod Endings

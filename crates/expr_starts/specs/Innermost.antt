@@ -1,7 +1,7 @@
 -- What is innermost where something is wanted.
-use Rattle.std.specs.Prelude.{List, [], ◌∷◌}
-use Rattle.abstract_syntax.specs.Expressions.{no_exprs, one_expr, no_patterns, one_pattern, no_cases, one_case}
-use Rattle.grammar_trees.specs.Frames.{Frame, items, pattern_items, case_patterns}
+use Rattle.std.specs.Prelude.{List, ◌∷◌}
+use Rattle.abstract_syntax.specs.Expressions.{no_exprs, one_expr, no_patterns}
+use Rattle.grammar_trees.specs.Frames.{Frame, items, pattern_items}
 
 -- no list of expressions
 abbrev pub NoList : List Frame → Type 0
