@@ -3,6 +3,7 @@ use Rattle.std.proofs.Common.{◌≡◌, ℕ, suc, ◌-◌, List, [], ◌∷◌,
 use Rattle.abstract_syntax.specs.Expressions.{ExprTree}
 use Rattle.grammar_trees.specs.Frames.{Frame, State, Built}
 use Rattle.grammar_trees.specs.Machine.{pull, completed, word_pull, follow_word, go_on, end_expr}
+use Rattle.grammar_trees.specs.Reading.{built_pattern}
 use Rattle.grammar_words.specs.declared.word.Word.{Word}
 use Rattle.vdm_kinds.specs.declared.halt.OutOfMemory.{OutOfMemory}
 use Rattle.vdm_kinds.specs.declared.place.Place.{Place}
@@ -59,6 +60,15 @@ end-alone e (f ∷ fs) =
 
 pub ended-on : (e whole : ExprTree) (old new : List Frame) → settled 0 e old ≡ closed whole new → alone whole new ≡ end_expr e old
 ended-on e whole old new made = sym (end-alone e old ∙ ap (λ (c : Closed). alone c.tree c.frames) made)
+
+-- an expression is no pattern
+neither : (b : Bool) (x y : Built) → built_pattern x ≡ None → built_pattern y ≡ None → built_pattern (if b then x else y) ≡ None
+neither true x y p q = p
+neither false x y p q = q
+
+pub no-pattern : (e : ExprTree) (fs : List Frame) → built_pattern (end_expr e fs) ≡ None
+no-pattern e [] = refl
+no-pattern e (f ∷ fs) = neither (nat_lt 0 (pull f)) _ _ (no-pattern (completed f e) fs) refl
 
 -- the innermost frame is the last that is kept
 last-split : (frames : List Kept) (last : Kept) → Some last ≡ slice_get frames (length frames - 1) → (rest : List Kept) × (frames ≡ rest ++ last ∷ [])

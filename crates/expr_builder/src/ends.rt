@@ -56,6 +56,10 @@ pub fn end_pattern(mode: Mode, frames: &mut Vec<Frame>) -> Result<Option<Pattern
 {
     match mode {
         Mode::HasPattern(pattern) => joined(pattern, frames),
+        Mode::Has(tree) => {
+            Mode::Has(tree).discard();
+            Ok(None)
+        }
         mode => {
             mode.discard();
             Ok(None)

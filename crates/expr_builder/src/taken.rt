@@ -2,7 +2,7 @@
 
 ghost use Rattle.std.specs.Prelude.{◌≡◌, IfOk};
 ghost use Rattle.expr_tree.specs.View.{view_of};
-ghost use Rattle.grammar_trees.specs.Machine.{taken, taken_part, taken_choice, taken_by};
+ghost use Rattle.grammar_trees.specs.Machine.{taken, taken_by};
 ghost use Rattle.tree_frames.specs.Views.{frame_view, stop_view, stack_view, state_view};
 
 use expr_parts::{
@@ -79,21 +79,6 @@ fn taken(
         Frame::SequenceSet(item, pattern, place) => {
             behind_sequence_set(alloc, item, pattern, tree, place, stop, frames)
         }
-        frame => taken_part(alloc, frame, tree, stop, frames),
-    }
-}
-
-/// What a frame of a test, of fields or of definitions makes of an expression.
-fn taken_part(
-    alloc: Global,
-    frame: Frame,
-    tree: Box<Expr>,
-    stop: Stop,
-    frames: &mut Vec<Frame>,
-) -> Result<Option<Mode>, OutOfMemory>
-    ensures { IfOk result (λ next. state_view next frames.new.items ≡ taken_part (frame_view frame) (view_of tree.value) (stop_view stop) (stack_view frames.old.items)) }
-{
-    match frame {
         Frame::LeftClass(compared, place) => {
             opened_at(
                 Stop::Comma,
@@ -127,21 +112,6 @@ fn taken_part(
                 frames,
             )
         }
-        frame => taken_choice(alloc, frame, tree, stop, frames),
-    }
-}
-
-/// What a frame of a choice makes of an expression.
-fn taken_choice(
-    alloc: Global,
-    frame: Frame,
-    tree: Box<Expr>,
-    stop: Stop,
-    frames: &mut Vec<Frame>,
-) -> Result<Option<Mode>, OutOfMemory>
-    ensures { IfOk result (λ next. state_view next frames.new.items ≡ taken_choice (frame_view frame) (view_of tree.value) (stop_view stop) (stack_view frames.old.items)) }
-{
-    match frame {
         Frame::IfTest(place) => opened_at(Stop::Then, Frame::IfThen(tree, place), stop, frames),
         Frame::IfThen(test, place) => {
             behind_branch(test, tree, Vec::new(alloc), place, stop, frames)
