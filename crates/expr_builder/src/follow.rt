@@ -9,7 +9,7 @@ ghost use Rattle.tree_frames.specs.declared.frame.Frame.{Frame as FrameView};
 ghost use Rattle.tree_frames.specs.Views.{stack_view, state_view};
 
 use crate::settling::settled;
-use crate::taken::taken_by;
+use expr_takes::taken_by;
 use expr_tree::Expr;
 use grammar_tokens::Token;
 use grammar_words::Word;

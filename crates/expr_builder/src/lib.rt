@@ -6,6 +6,5 @@ mod ends;
 mod follow;
 mod settling;
 mod steps;
-mod taken;
 
 pub use build::{build_expr, build_pattern};
