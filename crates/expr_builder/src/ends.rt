@@ -1,18 +1,20 @@
 // The tree at the end of the tokens.
 
-ghost use Rattle.std.specs.Prelude.{◌≡◌, ◌<◌, length, IfOk, OnOk, true, false, nat_lt, option_map};
+ghost use Rattle.std.specs.Prelude.{◌≡◌, IfOk, option_map};
 ghost use Rattle.expr_tree.specs.View.{view_of, pattern_view};
-ghost use Rattle.grammar_trees.specs.Machine.{end_expr, end_pattern, end_in};
+ghost use Rattle.grammar_trees.specs.Machine.{end_pattern, end_in};
 ghost use Rattle.grammar_trees.specs.Reading.{built_expr, built_pattern};
-ghost use Rattle.expr_builder.specs.Tops.{top_pull};
+ghost use Rattle.expr_builder.specs.Settling.{alone, alone_pattern};
 ghost use Rattle.tree_frames.specs.Views.{mode_view, stack_view};
 
-use crate::follow::pulls_more;
+use crate::settling::settled;
 use expr_tree::{Expr, Pattern};
 use std::alloc::Global;
-use tree_frames::{popped, with_pattern, Frame, Mode};
-use tree_nodes::completed;
+use tree_frames::{Frame, Mode, popped, with_pattern};
 use vdm_kinds::OutOfMemory;
+
+/// How strongly the end of the tokens pulls: not at all.
+const END: u32 = 0;
 
 /// The expression that was read, at the end of the tokens.
 pub fn end_expr(
@@ -24,45 +26,27 @@ pub fn end_expr(
 {
     match mode {
         Mode::Has(tree) => {
-            let tree = all_ended(alloc, tree, frames)?;
+            let tree = settled(alloc, END, tree, frames)?;
             Ok(alone(tree, frames))
         }
-        _ => Ok(None),
+        mode => {
+            mode.discard();
+            Ok(None)
+        }
     }
 }
 
-/// The expression that frames end with which go to the right as far as they can.
-fn all_ended(alloc: Global, tree: Expr, frames: &mut Vec<Frame>) -> Result<Expr, OutOfMemory>
-    ensures whole { IfOk result (λ whole. end_expr (view_of whole) (stack_view frames.new.items) ≡ end_expr (view_of tree) (stack_view frames.old.items)) }
-    ensures none { OnOk result (nat_lt 0 (top_pull (stack_view frames.new.items)) ≡ false) }
-{
-    let mut tree = tree;
-    while pulls_more(0, frames) {
-        tree = ended(alloc, tree, frames)?;
-    }
-    Ok(tree)
-}
-
-/// The expression that the innermost frame ends with, which is taken off.
-fn ended(alloc: Global, tree: Expr, frames: &mut Vec<Frame>) -> Result<Expr, OutOfMemory>
-    requires { nat_lt 0 (top_pull (stack_view frames.old.items)) ≡ true }
-    ensures whole { IfOk result (λ whole. end_expr (view_of whole) (stack_view frames.new.items) ≡ end_expr (view_of tree) (stack_view frames.old.items)) }
-    ensures shorter { OnOk result (length frames.new.items < length frames.old.items) }
+/// The expression, where nothing is open round it.
+fn alone(tree: Box<Expr>, frames: &mut Vec<Frame>) -> Option<Expr>
+    ensures { option_map view_of result ≡ built_expr (alone (view_of tree.value) (stack_view frames.old.items)) }
 {
     match popped(frames) {
-        Some(frame) => completed(alloc, frame, tree),
-        None => unreachable!(),
-    }
-}
-
-/// The expression, where nothing is open.
-fn alone(tree: Expr, frames: &mut Vec<Frame>) -> Option<Expr>
-    requires { nat_lt 0 (top_pull (stack_view frames.old.items)) ≡ false }
-    ensures { option_map view_of result ≡ built_expr (end_expr (view_of tree) (stack_view frames.old.items)) }
-{
-    match popped(frames) {
-        None => Some(tree),
-        Some(_frame) => None,
+        None => Some(Box::into_inner(tree)),
+        Some(frame) => {
+            frame.discard();
+            Mode::Has(tree).discard();
+            None
+        }
     }
 }
 
@@ -72,7 +56,14 @@ pub fn end_pattern(mode: Mode, frames: &mut Vec<Frame>) -> Result<Option<Pattern
 {
     match mode {
         Mode::HasPattern(pattern) => joined(pattern, frames),
-        _ => Ok(None),
+        Mode::Has(tree) => {
+            Mode::Has(tree).discard();
+            Ok(None)
+        }
+        mode => {
+            mode.discard();
+            Ok(None)
+        }
     }
 }
 
@@ -84,11 +75,26 @@ fn joined(pattern: Pattern, frames: &mut Vec<Frame>) -> Result<Option<Pattern>, 
         None => Ok(Some(pattern)),
         Some(Frame::Concatenated(parts, place)) => {
             let parts = with_pattern(parts, pattern)?;
-            match popped(frames) {
-                None => Ok(Some(Pattern::concatenation(parts, place))),
-                Some(_frame) => Ok(None),
-            }
+            Ok(alone_pattern(Pattern::concatenation(parts, place), frames))
         }
-        Some(_frame) => Ok(None),
+        Some(frame) => {
+            frame.discard();
+            Mode::HasPattern(pattern).discard();
+            Ok(None)
+        }
+    }
+}
+
+/// The pattern, where nothing is open round it.
+fn alone_pattern(pattern: Pattern, frames: &mut Vec<Frame>) -> Option<Pattern>
+    ensures { option_map pattern_view result ≡ built_pattern (alone_pattern (pattern_view pattern) (stack_view frames.old.items)) }
+{
+    match popped(frames) {
+        None => Some(pattern),
+        Some(frame) => {
+            frame.discard();
+            Mode::HasPattern(pattern).discard();
+            None
+        }
     }
 }

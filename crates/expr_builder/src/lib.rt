@@ -4,7 +4,7 @@
 mod build;
 mod ends;
 mod follow;
+mod settling;
 mod steps;
-mod taken;
 
 pub use build::{build_expr, build_pattern};
