@@ -5,3 +5,5 @@ pub mod Table
 pub mod Viable
 pub mod Depth
 pub mod Fronts
+pub mod WorkedFronts
+pub mod WorkedTexts

@@ -4,7 +4,12 @@
 mod expected;
 mod kind;
 mod open_node;
+mod worked;
 
 pub use expected::Expected;
 pub use kind::Kind;
 pub use open_node::OpenNode;
+pub use worked::{
+    worked_brackets, worked_classes, worked_definitions, worked_depths, worked_forms,
+    worked_specifications, worked_statements,
+};

@@ -1,0 +1,5 @@
+pub mod Stops
+pub mod Readers
+pub mod Keeping
+pub mod Leaves
+pub mod Parts

@@ -1,0 +1,72 @@
+-- Parts of statements are read, up to what stands behind a statement.
+use Rattle.std.proofs.Common.{◌≡◌, Bool, true, false, ◌&&◌, List, [], ◌∷◌, ◌++◌, Option, Some, None, refl, ap, sym, subst, ◌∙◌, if◌then◌else◌}
+use Rattle.vdm_kinds.specs.declared.place.Place.{Place}
+use Rattle.abstract_syntax.specs.Expressions.{ExprTree, PatternTree}
+use Rattle.abstract_syntax.specs.Statements.{StmtTree, while_do, for_set, for_sequence, trap_exit, always_after, def_then}
+use Rattle.vdm_kinds.specs.declared.sign.Sign.TheVariants as sign_is
+use Rattle.grammar_words.specs.declared.word.Word.{Word}
+use Rattle.grammar_words.specs.declared.word.Word.TheVariants as word_is
+use Rattle.grammar_words.specs.Pulls.{far_pull}
+use Rattle.grammar_words.specs.Tokens.{Token}
+use Rattle.grammar_trees.specs.Spelling.{spelling, pattern_spelling}
+use Rattle.grammar_trees.specs.Binding.{Binds, IsPattern}
+use Rattle.stmt_trees.specs.Pieces.{Piece, mark, key, whole}
+use Rattle.stmt_trees.specs.StmtSpelling.{stmt_spelling}
+use Rattle.stmt_trees.specs.StmtGrammar.{takes_else}
+use Rattle.stmt_reading.specs.Leaves.{Read, expr_in, pattern_in}
+use Rattle.stmt_reading.specs.Statements.{body_in, in_body, while_in, set_in, sequence_in, trap_in, always_in, def_in_stmt}
+use Rattle.stmt_laws.proofs.Readers.{Reads, Begins, at_mark, by_mark, last_reads, then_reads}
+use Rattle.stmt_laws.proofs.Leaves.{ends_expr, expr_reads, pattern_reads}
+
+-- what stands behind a statement
+abbrev pub ends_stmt : Word → Bool
+ends_stmt word_is.CloseRound = true
+ends_stmt word_is.CloseCurly = true
+ends_stmt word_is.Comma = true
+ends_stmt word_is.Semicolon = true
+ends_stmt word_is.In = true
+ends_stmt word_is.Else = true
+ends_stmt word_is.Elseif = true
+ends_stmt word_is.End = true
+ends_stmt word_is.Pre = true
+ends_stmt word_is.Post = true
+ends_stmt word_is.Types = true
+ends_stmt word_is.Values = true
+ends_stmt word_is.Instance = true
+ends_stmt word_is.Functions = true
+ends_stmt word_is.Operations = true
+ends_stmt word_is.Thread = true
+ends_stmt word_is.Sync = true
+ends_stmt word_is.TextEnd = true
+ends_stmt _ = false
+
+abbrev pub not_else : Word → Bool
+not_else word_is.Else = false
+not_else word_is.Elseif = false
+not_else _ = true
+
+-- no `else` stands behind a statement that would take it
+abbrev pub behind_stmt : Bool → Word → Bool
+behind_stmt takes w = ends_stmt w && (if takes then not_else w else true)
+
+abbrev pub ends_after : StmtTree → Word → Bool
+ends_after s w = behind_stmt (takes_else s) w
+
+abbrev pub OneReads : (List Token → Read StmtTree) → StmtTree → Type 0
+OneReads one s = Reads one (stmt_spelling s) s (ends_after s)
+
+pub body_reads : (one : List Token → Read StmtTree) (made : StmtTree → StmtTree) (s : StmtTree) → OneReads one s
+    → Reads (body_in one made) (mark word_is.Do ∷ stmt_spelling s) (made s) (ends_after s)
+body_reads one made s r = at_mark word_is.Do _ refl (λ place. last_reads made r)
+
+pub while_reads : (one : List Token → Read StmtTree) (c : ExprTree) (s : StmtTree) (place : Place) → Binds c far_pull → OneReads one s
+    → Reads (while_in one place) (whole (spelling c) ++ (mark word_is.Do ∷ stmt_spelling s)) (while_do c s place) (ends_after s)
+while_reads one c s place b r = then_reads _ (expr_reads c b) (by_mark word_is.Do refl) (body_reads one (λ body. while_do c body place) s r)
+
+pub set_reads : (one : List Token → Read StmtTree) (p : PatternTree) (e : ExprTree) (s : StmtTree) (place : Place) → IsPattern p
+    → Binds e far_pull → OneReads one s → Reads (set_in one place)
+      (whole (pattern_spelling p) ++ (mark (word_is.Operator sign_is.InSet) ∷ (whole (spelling e) ++ (mark word_is.Do ∷ stmt_spelling s))))
+      (for_set p e s place) (ends_after s)
+set_reads one p e s place g b r =
+    then_reads _ (pattern_reads p g) (by_mark (word_is.Operator sign_is.InSet) refl) (at_mark (word_is.Operator sign_is.InSet) _ refl (λ spot.
+    then_reads _ (expr_reads e b) (by_mark word_is.Do refl) (body_reads one (λ body. for_set p e body place) s r)))
