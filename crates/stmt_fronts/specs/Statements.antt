@@ -1,6 +1,6 @@
 -- What a word does in statements.
 use Rattle.std.specs.Prelude.{Bool, true, false, if◌then◌else◌, List, [], ◌∷◌, ◌++◌}
-use Rattle.vdm_kinds.specs.declared.sign.Sign.TheVariants.{Equal, InSet}
+use Rattle.vdm_kinds.specs.declared.sign.Sign.TheVariants.{InSet}
 use Rattle.grammar_words.specs.declared.word.Word.{Word}
 use Rattle.grammar_words.specs.declared.word.Word.TheVariants as word
 use Rattle.grammar_words.specs.Pulls.{postfix_pull}

@@ -1,5 +1,5 @@
 -- Which tokens may be the beginning of a statement or a specification.
-use Rattle.std.specs.Prelude.{◌≡◌, Bool, true, false, if◌then◌else◌, nat_eq, List, [], ◌∷◌, ◌++◌, map, filter, flat_map, Option, Some, None}
+use Rattle.std.specs.Prelude.{◌≡◌, Bool, true, false, if◌then◌else◌, nat_eq, List, [], ◌∷◌, ◌++◌, map, flat_map, Option, Some, None}
 use Rattle.vdm_kinds.specs.declared.name.Name.{Name}
 use Rattle.grammar_words.specs.declared.word.Word.{Word}
 use Rattle.grammar_words.specs.Tokens.{Token, identifier, word_of}

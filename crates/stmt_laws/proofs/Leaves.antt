@@ -30,9 +30,10 @@ use Rattle.front_laws.proofs.Types.{type_reads as type_passes}
 use Rattle.front_laws.proofs.Whole.{words-of, expr_reads as expr_passes, reads_pattern as pattern_passes, type-whole, pattern-whole, expr-whole}
 use Rattle.stmt_trees.specs.Pieces.{Piece, whole, Spelled}
 use Rattle.stmt_reading.specs.Leaves.{leaf, expr_in, pattern_in, type_in}
-use Rattle.stmt_laws.proofs.Stops.{Ends, at_end, at_word, stops, whole-stops, leaf_is}
+use Rattle.stmt_laws.proofs.Stops.{Ends, at_end, at_word, whole-stops, leaf_is}
 use Rattle.stmt_laws.proofs.Keeping.{zero-is, not_taken, NoneTaken, whole_of}
-use Rattle.stmt_laws.proofs.Readers.{Reads, first_word}
+use Rattle.stmt_laws.specs.Ends.{ends_expr, ends_pattern, ends_type, first_word}
+use Rattle.stmt_laws.proofs.Readers.{Reads}
 
 -- ---- the tokens of a leaf
 
@@ -57,24 +58,6 @@ fronted (number n ∷ ws) tokens rest h =
     one_more tokens h.0 rest (whole_token n h.1.0) (number n) ws h.1.1 f ((h.1.0, refl), f.written)
 
 -- ---- what ends them
-
--- behind an expression also `,` and `:`, and behind patterns and types besides `=` and `in set`
-abbrev pub ends_expr : Word → Bool
-ends_expr word_is.Comma = true
-ends_expr word_is.Colon = true
-ends_expr w = stops w
-
-abbrev pub ends_pattern : Word → Bool
-ends_pattern word_is.Comma = true
-ends_pattern word_is.Colon = true
-ends_pattern (word_is.Operator sign_is.Equal) = true
-ends_pattern (word_is.Operator sign_is.InSet) = true
-ends_pattern w = stops w
-
-abbrev pub ends_type : Word → Bool
-ends_type word_is.Comma = true
-ends_type (word_is.Operator sign_is.Equal) = true
-ends_type w = stops w
 
 -- what is wanted behind a whole, and that it ends where this word stands, since that is wanted behind it
 pub record Ended (front : List Word) (k : Kind) : Type 0 where
@@ -127,17 +110,19 @@ ends_at : (wanted : List Wanted) (rest : List Token) → ((w : Word) → w ≡ f
 ends_at wanted [] none = at_end
 ends_at wanted (token ∷ tokens) none = at_word (word_of token) (map word_of tokens) (none (word_of token) refl)
 
+pub expr_leaf : (front rest : List Token) (e : ExprTree) → IsTree front e → ends_expr (first_word rest) ≡ true
+    → expr_in (front ++ rest) ≡ Some (e, rest)
+expr_leaf front rest e h s =
+    let end = ended kind.Expr (map word_of front) (expr-whole front e h) in
+    leaf_is kind.Expr expr_of front rest e end.behind end.reached
+    (ends_at end.behind rest (λ w q. expr_ends e h.binds front h.spelled end w (ap ends_expr q ∙ s))) ((expr-is front e).1 h)
+
 pub expr_reads : (e : ExprTree) → Binds e far_pull → Reads expr_in (whole (spelling e)) e ends_expr
 expr_reads e b =
     record {
       reads = λ tokens rest h s.
           let f = fronted (spelling e) tokens rest h in
-          let is_tree : IsTree f.front e = record { spelled = f.written; binds = b } in
-          let end = ended kind.Expr (map word_of f.front) (expr-whole f.front e is_tree) in
-          ap expr_in f.is
-          ∙ leaf_is kind.Expr expr_of f.front rest e end.behind end.reached
-          (ends_at end.behind rest (λ w q. expr_ends e b f.front f.written end w (ap ends_expr q ∙ s)))
-          ((expr-is f.front e).1 is_tree);
+          ap expr_in f.is ∙ expr_leaf f.front rest e (record { spelled = f.written; binds = b }) s;
     }
 
 -- ---- patterns
@@ -162,17 +147,20 @@ pattern_ends p b tokens a end (word_is.Operator sign_is.InSet) h =
     (record { passes = refl }) end
 pattern_ends p b tokens a end w h = whole-stops end.behind w end.whole h
 
+pub pattern_leaf : (front rest : List Token) (p : PatternTree) → IsPatternOf front p → ends_pattern (first_word rest) ≡ true
+    → pattern_in (front ++ rest) ≡ Some (p, rest)
+pattern_leaf front rest p h s =
+    let end = ended kind.Pattern (map word_of front) (pattern-whole front p h) in
+    leaf_is kind.Pattern pattern_of front rest p end.behind end.reached
+    (ends_at end.behind rest (λ w q. pattern_ends p h.grammatical front h.spelled end w (ap ends_pattern q ∙ s)))
+    ((pattern-is front p).1 h)
+
 pub pattern_reads : (p : PatternTree) → IsPattern p → Reads pattern_in (whole (pattern_spelling p)) p ends_pattern
 pattern_reads p b =
     record {
       reads = λ tokens rest h s.
           let f = fronted (pattern_spelling p) tokens rest h in
-          let is_tree : IsPatternOf f.front p = record { spelled = f.written; grammatical = b } in
-          let end = ended kind.Pattern (map word_of f.front) (pattern-whole f.front p is_tree) in
-          ap pattern_in f.is
-          ∙ leaf_is kind.Pattern pattern_of f.front rest p end.behind end.reached
-          (ends_at end.behind rest (λ w q. pattern_ends p b f.front f.written end w (ap ends_pattern q ∙ s)))
-          ((pattern-is f.front p).1 is_tree);
+          ap pattern_in f.is ∙ pattern_leaf f.front rest p (record { spelled = f.written; grammatical = b }) s;
     }
 
 -- ---- types
@@ -192,15 +180,17 @@ type_ends t b tokens a end (word_is.Operator sign_is.Equal) h =
     (follow (word (word_is.Operator sign_is.Equal)) refl refl refl nothing) end
 type_ends t b tokens a end w h = whole-stops end.behind w end.whole h
 
+pub type_leaf : (front rest : List Token) (t : TypeTree) → IsTypeOf front t → ends_type (first_word rest) ≡ true
+    → type_in (front ++ rest) ≡ Some (t, rest)
+type_leaf front rest t h s =
+    let end = ended kind.TypeExpr (map word_of front) (type-whole front t h) in
+    leaf_is kind.TypeExpr type_of front rest t end.behind end.reached
+    (ends_at end.behind rest (λ w q. type_ends t h.grammatical front h.spelled end w (ap ends_type q ∙ s))) (type-read front t h)
+
 pub type_reads : (t : TypeTree) → IsType t union → Reads type_in (whole (type_spelling t)) t ends_type
 type_reads t b =
     record {
       reads = λ tokens rest h s.
           let f = fronted (type_spelling t) tokens rest h in
-          let is_tree : IsTypeOf f.front t = record { spelled = f.written; grammatical = b } in
-          let end = ended kind.TypeExpr (map word_of f.front) (type-whole f.front t is_tree) in
-          ap type_in f.is
-          ∙ leaf_is kind.TypeExpr type_of f.front rest t end.behind end.reached
-          (ends_at end.behind rest (λ w q. type_ends t b f.front f.written end w (ap ends_type q ∙ s)))
-          (type-read f.front t is_tree);
+          ap type_in f.is ∙ type_leaf f.front rest t (record { spelled = f.written; grammatical = b }) s;
     }

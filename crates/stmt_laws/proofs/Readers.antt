@@ -8,12 +8,8 @@ use Rattle.grammar_words.specs.declared.word.Word.TheVariants as word_is
 use Rattle.grammar_words.specs.Tokens.{Token, identifier, quote, whole as whole_token, character, text, make_named, is_named, plain, word_of}
 use Rattle.grammar_words.specs.Written.{Written, at, word}
 use Rattle.stmt_trees.specs.Pieces.{Piece, must, again, one_of, key, mark, may, IsFirst, Begin, Spelled}
+use Rattle.stmt_laws.specs.Ends.{first_word}
 use Rattle.stmt_reading.specs.Leaves.{Read, onto, choice, word_in, is_word, name_in}
-
--- the first word, which is the end where there is none
-abbrev pub first_word : List Token → Word
-first_word [] = word_is.TextEnd
-first_word (token ∷ tokens) = word_of token
 
 -- tokens that are written so are read as this, where one of these words stands behind them
 pub record Reads {A : Type 0} (p : List Token → Read A) (ws : List Piece) (a : A) (ends : Word → Bool) : Type 0 where

@@ -20,23 +20,9 @@ use Rattle.grammar_fronts.specs.Table.{turn, is_optional}
 use Rattle.grammar_fronts.specs.Fronts.{fronts, on}
 use Rattle.grammar_fronts.specs.Viable.{refuses, after, taken, start, meets, either, left_by, needed}
 use Rattle.stmt_reading.specs.Leaves.{leaf, front_length, with_rest}
+use Rattle.stmt_laws.specs.Ends.{stops}
 
 -- ---- words that nothing goes on with
-
--- no operator, no postfix, and nothing that goes on with a list or a bind
-abbrev pub stops : Word → Bool
-stops (word_is.Operator sign) = false
-stops word_is.OpenRound = false
-stops word_is.Dot = false
-stops word_is.DotNumber = false
-stops word_is.Backquote = false
-stops word_is.Tilde = false
-stops word_is.Bar = false
-stops word_is.Ampersand = false
-stops word_is.Be = false
-stops word_is.Comma = false
-stops word_is.Colon = false
-stops _ = true
 
 type-stops : (w : Word) → stops w ≡ true → behind_type w ≡ None
 type-stops (word_is.Operator s) e = absurd (cc)

@@ -1,6 +1,6 @@
-//! Laws of statements and specifications over tokens.
+//! Laws of what tokens are read as.
 #![tactic(auto)]
 
 mod laws;
 
-pub use laws::one_statement;
+pub use laws::leaves_are_read;

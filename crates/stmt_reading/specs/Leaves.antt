@@ -1,5 +1,5 @@
 -- What stands at the beginning of tokens: single words, and whole expressions, patterns and types.
-use Rattle.std.specs.Prelude.{ℕ, zero, suc, Bool, true, false, ◌&&◌, nat_eq, nat_lt, if◌then◌else◌, List, [], ◌∷◌, length, map, take, drop, Option, Some, None}
+use Rattle.std.specs.Prelude.{ℕ, zero, suc, ◌+◌, Bool, ◌&&◌, nat_eq, nat_lt, if◌then◌else◌, List, [], ◌∷◌, length, map, take, drop, Option, Some, None}
 use Rattle.vdm_kinds.specs.declared.name.Name.{Name}
 use Rattle.vdm_kinds.specs.declared.name_at.NameAt.{NameAt}
 use Rattle.vdm_kinds.specs.declared.place.Place.{Place}
@@ -153,8 +153,12 @@ name_again name tokens = onto (name_in tokens) (same_name name)
 
 -- ---- lists
 
-abbrev put : {A : Type 0} → A → List A → List Token → Read (List A)
+abbrev pub put : {A : Type 0} → A → List A → List Token → Read (List A)
 put first others tokens = Some (first ∷ others, tokens)
+
+-- a turn for each token, and one
+abbrev pub turns_for : List Token → ℕ
+turns_for tokens = length tokens + 1
 
 -- further items, each behind the word, at most as many as there are turns
 abbrev pub further : {A : Type 0} → Word → (List Token → Read A) → ℕ → List Token → Read (List A)
@@ -166,4 +170,4 @@ further between one (suc turns) tokens =
 
 -- one item or more, with the word between each two
 abbrev pub list_in : {A : Type 0} → Word → (List Token → Read A) → List Token → Read (List A)
-list_in between one tokens = onto (one tokens) (λ first rest. onto (further between one (length tokens) rest) (put first))
+list_in between one tokens = onto (one tokens) (λ first rest. onto (further between one (turns_for tokens) rest) (put first))

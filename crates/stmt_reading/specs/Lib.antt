@@ -1,2 +1,4 @@
 pub mod Leaves
 pub mod Statements
+pub mod Definitions
+pub mod Classes

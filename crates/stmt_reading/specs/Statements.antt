@@ -1,10 +1,10 @@
 -- The statement that tokens begin with, from left to right, and the tokens that are left.
-use Rattle.std.specs.Prelude.{ℕ, zero, suc, Bool, true, false, ◌||◌, if◌then◌else◌, List, [], ◌∷◌, length, Option, Some, None}
+use Rattle.std.specs.Prelude.{ℕ, zero, suc, Bool, true, false, ◌||◌, if◌then◌else◌, List, [], ◌∷◌, Option, Some, None}
 use Rattle.vdm_kinds.specs.declared.name_at.NameAt.{NameAt}
 use Rattle.vdm_kinds.specs.declared.place.Place.{Place}
 use Rattle.vdm_kinds.specs.declared.sign.Sign.TheVariants.{Equal, InSet}
 use Rattle.abstract_syntax.specs.Types.{TypeTree}
-use Rattle.abstract_syntax.specs.Expressions.{ExprTree, ExprTrees, no_exprs, one_expr, DefinedTrees, no_defined, one_defined, BindTree, bind_in, PatternTree, PatternTrees, no_patterns, one_pattern, expr_place, named, qualified, apply, select, sequence_enumeration, sequence_comprehension, cases_of}
+use Rattle.abstract_syntax.specs.Expressions.{ExprTree, ExprTrees, no_exprs, one_expr, DefinedTrees, no_defined, one_defined, bind_in, PatternTree, PatternTrees, no_patterns, one_pattern, expr_place, named, qualified, apply, select, sequence_enumeration, sequence_comprehension, cases_of}
 use Rattle.abstract_syntax.specs.Statements.{TargetStepTree, TargetTree, field_of, element_at, variable, variable_of_class, target_place, AssignmentTree, LocalTree, DclTree, StmtTree, StmtTrees, MaybeStmt, StmtBranches, StmtCases, HandlerTrees, block, assign, assign_together, call, returns, exits, let_then, let_be_then, def_then, if_then, cases_then, while_do, for_numbers, for_set, for_sequence, trap_exit, trap_exits, always_after, in_parallel, start_thread, start_threads, skips, errs, no_stmts, one_stmt, no_stmt, given_stmt, no_stmt_branches, one_stmt_branch, no_stmt_cases, one_stmt_case, no_handlers, one_handler}
 use Rattle.grammar_words.specs.declared.word.Word.{Word}
 use Rattle.grammar_words.specs.declared.word.Word.TheVariants as word_is
@@ -12,7 +12,7 @@ use Rattle.grammar_words.specs.Tokens.{Token, plain, word_of}
 use Rattle.grammar_fronts.specs.Operands.{expression}
 use Rattle.grammar_fronts.specs.Turns.{Turn}
 use Rattle.stmt_trees.specs.StmtGrammar.{primary}
-use Rattle.stmt_reading.specs.Leaves.{Read, onto, choice, expr_in, pattern_in, type_in, word_in, name_in, further, list_in}
+use Rattle.stmt_reading.specs.Leaves.{Read, onto, choice, expr_in, pattern_in, type_in, word_in, name_in, turns_for, further, list_in}
 
 -- ---- parts
 
@@ -131,9 +131,9 @@ block_rest one (suc turns) tokens =
 
 abbrev pub block_in : (List Token → Read StmtTree) → Place → List Token → Read StmtTree
 block_in one place tokens =
-    onto (dcls_in (length tokens) tokens) (λ (locals : List DclTree) (a : List Token).
+    onto (dcls_in (turns_for tokens) tokens) (λ (locals : List DclTree) (a : List Token).
     onto (one a) (λ (s : StmtTree) (b : List Token).
-    onto (block_rest one (length tokens) b) (λ (others : List StmtTree) (c : List Token).
+    onto (block_rest one (turns_for tokens) b) (λ (others : List StmtTree) (c : List Token).
     Some (block locals (stmts_tree (s ∷ others)) place, c))))
 
 -- ---- `let`, `def`, `if` and `cases`
@@ -162,13 +162,13 @@ definitions_tree (d ∷ ds) = one_defined d.0 d.1 d.2 (definitions_tree ds)
 abbrev pub let_definitions : (List Token → Read StmtTree) → Place → PatternTree → List Token → Read StmtTree
 let_definitions one place p tokens =
     onto (defined_in p tokens) (λ (first : Definition) (a : List Token).
-    onto (further word_is.Comma definition_in (length a) a) (λ (others : List Definition) (b : List Token).
+    onto (further word_is.Comma definition_in (turns_for a) a) (λ (others : List Definition) (b : List Token).
     onto (word_in word_is.In b) (λ (behind : Place) (c : List Token).
     onto (one c) (λ (s : StmtTree) (d : List Token). Some (let_then (definitions_tree (first ∷ others)) s place, d)))))
 
 abbrev pub let_bind : (List Token → Read StmtTree) → Place → PatternTree → List Token → Read StmtTree
 let_bind one place p tokens =
-    onto (further word_is.Comma pattern_in (length tokens) tokens) (λ (others : List PatternTree) (a : List Token).
+    onto (further word_is.Comma pattern_in (turns_for tokens) tokens) (λ (others : List PatternTree) (a : List Token).
     onto (word_in (word_is.Operator InSet) a) (λ (member : Place) (b : List Token).
     onto (expr_in b) (λ (set : ExprTree) (c : List Token).
     onto (such_that_in c) (λ (condition : Option ExprTree) (d : List Token).
@@ -216,7 +216,7 @@ if_in one place tokens =
     onto (expr_in tokens) (λ (condition : ExprTree) (a : List Token).
     onto (word_in word_is.Then a) (λ (then_place : Place) (b : List Token).
     onto (one b) (λ (s : StmtTree) (c : List Token).
-    onto (branches_in one (length tokens) c) (λ (elseifs : StmtBranches) (d : List Token).
+    onto (branches_in one (turns_for tokens) c) (λ (elseifs : StmtBranches) (d : List Token).
     onto (else_in one d) (λ (otherwise : MaybeStmt) (e : List Token). Some (if_then condition s elseifs otherwise place, e))))))
 
 -- alternatives, and what stands behind `others`
@@ -244,7 +244,7 @@ abbrev pub cases_in_stmt : (List Token → Read StmtTree) → Place → List Tok
 cases_in_stmt one place tokens =
     onto (expr_in tokens) (λ (subject : ExprTree) (a : List Token).
     onto (word_in word_is.Colon a) (λ (colon : Place) (b : List Token).
-    onto (cases_in one (length tokens) b) (λ (found : CasesRead) (c : List Token). Some (cases_then subject found.0 found.1 place, c))))
+    onto (cases_in one (turns_for tokens) b) (λ (found : CasesRead) (c : List Token). Some (cases_then subject found.0 found.1 place, c))))
 
 -- ---- loops
 

@@ -2,9 +2,8 @@
 use Rattle.std.specs.Prelude.{◌≡◌, List, [], ◌∷◌, Option, Some, None}
 use Rattle.vdm_kinds.specs.declared.name.Name.{Name}
 use Rattle.abstract_syntax.specs.Types.{TypeTree, product_type}
-use Rattle.abstract_syntax.specs.Expressions.{ExprTree, PatternTree}
-use Rattle.abstract_syntax.specs.Statements.{StmtTree}
-use Rattle.abstract_syntax.specs.Classes.{FieldTree, TypeBody, same_as, with_fields, InvariantTree, TypeDefTree, ValueDefTree, VariableTree, VariableItem, variable_item, invariant_item, Body, written, not_yet_specified, subclass_responsibility, FunctionTree, OperationTree, PhaseTree, ThreadTree, periodic, procedural, SyncTree, permission, mutex_all, mutex_of, BlockTree, types, values, variables, functions, operations, thread_of, synchronisation, ClassTree, SpecTree}
+use Rattle.abstract_syntax.specs.Expressions.{ExprTree}
+use Rattle.abstract_syntax.specs.Classes.{FieldTree, TypeBody, same_as, with_fields, InvariantTree, TypeDefTree, ValueDefTree, VariableItem, variable_item, invariant_item, Body, written, not_yet_specified, subclass_responsibility, FunctionTree, OperationTree, PhaseTree, ThreadTree, periodic, procedural, SyncTree, permission, mutex_all, mutex_of, BlockTree, types, values, variables, functions, operations, thread_of, synchronisation, ClassTree, SpecTree}
 use Rattle.grammar_words.specs.Pulls.{far_pull}
 use Rattle.type_reading.specs.TypeSpelling.{IsType, union, single}
 use Rattle.grammar_trees.specs.Binding.{AreSomeNames, Binds, IsDeclared, IsPattern}
