@@ -8,7 +8,7 @@ use Rattle.grammar_fronts.specs.Operands.{expression as expression_turn}
 use Rattle.grammar_fronts.specs.Types.{whole_type as type_turn}
 use Rattle.stmt_fronts.specs.declared.expected.Expected.{Expected}
 use Rattle.stmt_fronts.specs.declared.expected.Expected.TheVariants.{Within, Initial, LevelOrName, StaticOrName, DefinedName, DefinedNameAgain, TypeDefs, MoreTypeDefs, TypeBody, Fields, Invariant, ValueDefs, MoreValueDefs, VariableItems, MoreVariableItems, FunctionDefs, MoreFunctionDefs, OperationDefs, MoreOperationDefs, TypeOrNone, FunctionArrow, Defined, FunctionBody, OperationBody, BehindIs, Pre, Post, Measure, ThreadBody, PhaseOrClose, LastSemicolon, SyncClauses, MoreSyncClauses, MutexNames, Classes, ClassName, ClassNameAgain, Superclasses, Blocks, DoubleArrow, DoubleEqual, Implies, Responsibility, Specified, Subclass, Variables, Yet}
-use Rattle.stmt_fronts.specs.Turns.{Turn, no_way, own, inner, then_wanted}
+use Rattle.stmt_fronts.specs.Turns.{Turn, no_way, own, inner}
 use Rattle.stmt_fronts.specs.Statements.{expression, pattern, declared_type, identifier, equals, open_round, close_round, comma, colon, statement}
 
 -- ---- the head of a definition: `[ static ] [ private | protected | public ] [ static ]` with at most one `static`, and its name

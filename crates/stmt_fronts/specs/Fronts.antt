@@ -1,5 +1,5 @@
 -- The longest front of tokens that is viable, and the first place in it that is too deep.
-use Rattle.std.specs.Prelude.{◌≡◌, ℕ, ◌+◌, ◌==◌, ◌≤◌, nat_lt, Bool, true, false, ◌&&◌, ◌||◌, if◌then◌else◌, List, [], ◌∷◌, ◌++◌, length, map, Option, Some, None}
+use Rattle.std.specs.Prelude.{◌≡◌, ℕ, ◌+◌, ◌==◌, ◌≤◌, nat_lt, Bool, false, ◌&&◌, ◌||◌, if◌then◌else◌, List, [], ◌∷◌, ◌++◌, length, map, Option, Some, None}
 use Rattle.vdm_kinds.specs.declared.part.Part.TheVariants.{Spec}
 use Rattle.vdm_kinds.specs.declared.place.Place.{Place}
 use Rattle.grammar_words.specs.declared.word.PlacedWord.{PlacedWord}
@@ -73,7 +73,7 @@ pub record Found : Type 0 where
   pub deep : Option Place
 
 -- nothing more is taken
-abbrev stopped : Bool → Reading → Found
+abbrev pub stopped : Bool → Reading → Found
 stopped left_out reading =
     let wanted = reading.state.wanted in
     record {
@@ -83,7 +83,7 @@ stopped left_out reading =
       deep = first_of reading.deep (is_too_deep (ended (length (needed wanted)) closed reading.nodes)) reading.last;
     }
 
-abbrev one_more : Found → Found
+abbrev pub one_more : Found → Found
 one_more found = record found { tokens = found.tokens + 1 }
 
 -- too deep in both ways
@@ -92,7 +92,7 @@ in_both (Some a) (Some b) = Some a
 in_both _ _ = None
 
 -- of two ways to read as many tokens, one that is whole; else neither is, and what is too deep in one alone is not too deep
-abbrev either_way : Found → Found → Found
+abbrev pub either_way : Found → Found → Found
 either_way a b =
     let left_out = a.left_out || b.left_out in
     if a.whole then record a { left_out = left_out } else
@@ -100,15 +100,15 @@ either_way a b =
     record a { left_out = left_out; deep = in_both a.deep b.deep }
 
 -- of two ways to read tokens, the one that takes more
-abbrev better : Found → Found → Found
+abbrev pub better : Found → Found → Found
 better a b = if nat_lt b.tokens a.tokens then a else if nat_lt a.tokens b.tokens then b else either_way a b
 
-abbrev best : Found → List Found → Found
+abbrev pub best : Found → List Found → Found
 best found [] = found
 best found (next ∷ others) = best (better found next) others
 
 -- the best of the ways in which the next token is taken, if it is taken
-abbrev best_of : Found → List Found → Found
+abbrev pub best_of : Found → List Found → Found
 best_of none [] = none
 best_of none (found ∷ others) = best found others
 
@@ -120,7 +120,7 @@ found_on (token ∷ tokens) reading =
 
 -- ---- from the beginning
 
-abbrev place_of : List Token → Place
+abbrev pub place_of : List Token → Place
 place_of [] = record { part = Spec; line = 1; column = 1 }
 place_of (token ∷ tokens) = token_place token
 

@@ -1,6 +1,6 @@
 -- What may come where something is wanted: one table of what each word does, one of what may be left out, and one of what is a form
 -- that the profile leaves out. What is wanted in types, patterns and expressions stands in its own table.
-use Rattle.std.specs.Prelude.{Bool, true, false, List, [], ◌∷◌, Option, Some, None}
+use Rattle.std.specs.Prelude.{Bool, true, false, List, [], Option, Some, None}
 use Rattle.vdm_kinds.specs.declared.sign.Sign.TheVariants as sign
 use Rattle.grammar_words.specs.declared.word.Word.{Word}
 use Rattle.grammar_words.specs.declared.word.Word.TheVariants as word

@@ -1,7 +1,6 @@
 -- Which tokens may be the beginning of a statement or a specification.
-use Rattle.std.specs.Prelude.{◌≡◌, Bool, true, false, if◌then◌else◌, nat_eq, List, [], ◌∷◌, ◌++◌, map, flat_map, Option, Some, None}
+use Rattle.std.specs.Prelude.{◌≡◌, Bool, true, false, ◌||◌, if◌then◌else◌, nat_eq, List, [], ◌∷◌, ◌++◌, map, Option, Some, None}
 use Rattle.vdm_kinds.specs.declared.name.Name.{Name}
-use Rattle.grammar_words.specs.declared.word.Word.{Word}
 use Rattle.grammar_words.specs.Tokens.{Token, identifier, word_of}
 use Rattle.stmt_fronts.specs.declared.expected.Expected.{Expected}
 use Rattle.stmt_fronts.specs.declared.expected.Expected.TheVariants.{Statement, LevelOrName, StaticOrName, DefinedName, DefinedNameAgain, TypeDefs, ValueDefs, VariableItems, FunctionDefs, OperationDefs, Classes, ClassName, ClassNameAgain}
@@ -89,11 +88,14 @@ abbrev pub start : Kind → State
 start kind.Stmt = record { wanted = Statement ∷ []; names = no_names }
 start kind.Spec = record { wanted = Classes ∷ []; names = no_names }
 
--- what may be wanted behind the tokens
-abbrev pub taken : List Token → State → List State
-taken [] state = state ∷ []
-taken (token ∷ tokens) state = flat_map (taken tokens) (map way_on (ways token state))
+abbrev pub in_one : {A : Type 0} → (A → Bool) → List A → Bool
+in_one test [] = false
+in_one test (a ∷ others) = test a || in_one test others
 
--- tokens are viable where each is taken, in one way or another
+-- each token is taken, in one way or another
+abbrev pub can_take : List Token → State → Bool
+can_take [] state = true
+can_take (token ∷ tokens) state = in_one (λ (way : Way). can_take tokens (way_on way)) (ways token state)
+
 abbrev pub IsViable : Kind → List Token → Type 0
-IsViable k tokens = (taken tokens (start k) ≡ []) → ⊥
+IsViable k tokens = can_take tokens (start k) ≡ true

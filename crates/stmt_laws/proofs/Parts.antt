@@ -65,16 +65,16 @@ while_reads one c s place b r = then_reads _ (expr_reads c b) (by_mark word_is.D
 
 pub set_reads : (one : List Token → Read StmtTree) (p : PatternTree) (e : ExprTree) (s : StmtTree) (place : Place) → IsPattern p
     → Binds e far_pull → OneReads one s → Reads (set_in one place)
-      (whole (pattern_spelling p) ++ (mark (word_is.Operator sign_is.InSet) ∷ (whole (spelling e) ++ (mark word_is.Do ∷ stmt_spelling s))))
-      (for_set p e s place) (ends_after s)
+    (whole (pattern_spelling p) ++ (mark (word_is.Operator sign_is.InSet) ∷ (whole (spelling e) ++ (mark word_is.Do ∷ stmt_spelling s))))
+    (for_set p e s place) (ends_after s)
 set_reads one p e s place g b r =
     then_reads _ (pattern_reads p g) (by_mark (word_is.Operator sign_is.InSet) refl) (at_mark (word_is.Operator sign_is.InSet) _ refl (λ spot.
     then_reads _ (expr_reads e b) (by_mark word_is.Do refl) (body_reads one (λ body. for_set p e body place) s r)))
 
 pub sequence_reads : (one : List Token → Read StmtTree) (p : PatternTree) (e : ExprTree) (s : StmtTree) (place : Place) → IsPattern p
     → Binds e far_pull → OneReads one s → Reads (sequence_in one place)
-      (whole (pattern_spelling p) ++ (mark word_is.In ∷ (whole (spelling e) ++ (mark word_is.Do ∷ stmt_spelling s))))
-      (for_sequence p e s place) (ends_after s)
+    (whole (pattern_spelling p) ++ (mark word_is.In ∷ (whole (spelling e) ++ (mark word_is.Do ∷ stmt_spelling s))))
+    (for_sequence p e s place) (ends_after s)
 sequence_reads one p e s place g b r =
     then_reads _ (pattern_reads p g) (by_mark word_is.In refl) (at_mark word_is.In _ refl (λ spot.
     then_reads _ (expr_reads e b) (by_mark word_is.Do refl) (body_reads one (λ body. for_sequence p e body place) s r)))
@@ -90,8 +90,8 @@ in_body_reads one made s r = at_mark word_is.In _ refl (λ place. last_reads mad
 
 pub trap_reads : (one : List Token → Read StmtTree) (p : PatternTree) (h s : StmtTree) (place : Place) → IsPattern p → OneReads one h
     → OneReads one s → Reads (trap_in one place)
-      (whole (pattern_spelling p) ++ (mark word_is.With ∷ (stmt_spelling h ++ (mark word_is.In ∷ stmt_spelling s))))
-      (trap_exit p h s place) (ends_after s)
+    (whole (pattern_spelling p) ++ (mark word_is.With ∷ (stmt_spelling h ++ (mark word_is.In ∷ stmt_spelling s))))
+    (trap_exit p h s place) (ends_after s)
 trap_reads one p h s place g r q =
     then_reads _ (pattern_reads p g) (by_mark word_is.With refl) (at_mark word_is.With _ refl (λ spot.
     then_reads _ r (by_mark word_is.In (before_mark (takes_else h) word_is.In refl refl)) (in_body_reads one (λ body. trap_exit p h body place) s q)))
@@ -103,8 +103,8 @@ always_reads one l s place r q =
 
 pub def_reads : (one : List Token → Read StmtTree) (p : PatternTree) (e : ExprTree) (s : StmtTree) (place : Place) → IsPattern p
     → Binds e far_pull → OneReads one s → Reads (def_in_stmt one place)
-      (whole (pattern_spelling p) ++ (mark (word_is.Operator sign_is.Equal) ∷ (whole (spelling e) ++ (mark word_is.In ∷ stmt_spelling s))))
-      (def_then p e s place) (ends_after s)
+    (whole (pattern_spelling p) ++ (mark (word_is.Operator sign_is.Equal) ∷ (whole (spelling e) ++ (mark word_is.In ∷ stmt_spelling s))))
+    (def_then p e s place) (ends_after s)
 def_reads one p e s place g b r =
     then_reads _ (pattern_reads p g) (by_mark (word_is.Operator sign_is.Equal) refl) (at_mark (word_is.Operator sign_is.Equal) _ refl (λ spot.
     then_reads _ (expr_reads e b) (by_mark word_is.In refl) (at_mark word_is.In _ refl (λ other. last_reads (λ body. def_then p e body place) r))))

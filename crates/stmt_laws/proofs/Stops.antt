@@ -3,14 +3,12 @@ use Rattle.std.proofs.Common.{◌≡◌, Bool, true, false, List, [], ◌∷◌,
 use Rattle.std.specs.Option.{option_and_then}
 use Rattle.std.proofs.Math.Seq.{drop-append_seam, take-append_seam}
 use Rattle.std.proofs.lemmas.List.{map-append, length-map}
-
 use Rattle.grammar_words.specs.declared.word.Word.{Word}
 use Rattle.grammar_words.specs.declared.word.Word.TheVariants as word_is
 use Rattle.grammar_words.specs.Tokens.{Token, word_of}
 use Rattle.grammar_fronts.specs.declared.kind.Kind.{Kind}
 use Rattle.grammar_fronts.specs.declared.wanted.Wanted.{Wanted}
 use Rattle.grammar_fronts.specs.declared.wanted.Wanted.TheVariants as want
-
 use Rattle.grammar_fronts.specs.Types.{behind_type}
 use Rattle.grammar_fronts.specs.Patterns.{behind_pattern, more_patterns, more_pattern_pairs}
 use Rattle.grammar_fronts.specs.Operands.{behind_operand, behind_name, behind_class, more_expressions}
