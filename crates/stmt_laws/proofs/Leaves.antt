@@ -1,6 +1,5 @@
 -- Whole types, patterns and expressions are read up to the word that stands behind them.
-use Rattle.std.proofs.Common.{◌≡◌, Bool, true, false, List, [], ◌∷◌, ◌++◌, length, map, Option, Some, None, refl, ap, sym, subst, ◌∙◌}
-use Rattle.std.proofs.lemmas.List.{append-nil}
+use Rattle.std.proofs.Common.{◌≡◌, true, false, List, [], ◌∷◌, ◌++◌, length, map, Option, Some, None, refl, ap, sym, ◌∙◌}
 use Rattle.vdm_kinds.specs.declared.sign.Sign.TheVariants as sign_is
 use Rattle.abstract_syntax.specs.Types.{TypeTree}
 use Rattle.abstract_syntax.specs.Expressions.{ExprTree, PatternTree}
@@ -28,8 +27,8 @@ use Rattle.front_laws.proofs.Passing.{written_word, words_written, whole_of as w
 use Rattle.front_laws.proofs.Starts.{at_expression, at_pattern}
 use Rattle.front_laws.proofs.Types.{type_reads as type_passes}
 use Rattle.front_laws.proofs.Whole.{words-of, expr_reads as expr_passes, reads_pattern as pattern_passes, type-whole, pattern-whole, expr-whole}
-use Rattle.stmt_trees.specs.Pieces.{Piece, whole, Spelled}
-use Rattle.stmt_reading.specs.Leaves.{leaf, expr_in, pattern_in, type_in}
+use Rattle.stmt_trees.specs.Pieces.{whole, Spelled}
+use Rattle.stmt_reading.specs.Leaves.{expr_in, pattern_in, type_in}
 use Rattle.stmt_laws.proofs.Stops.{Ends, at_end, at_word, whole-stops, leaf_is}
 use Rattle.stmt_laws.proofs.Keeping.{zero-is, not_taken, NoneTaken, whole_of}
 use Rattle.stmt_laws.specs.Ends.{ends_expr, ends_pattern, ends_type, first_word}

@@ -2,4 +2,3 @@ pub mod Stops
 pub mod Readers
 pub mod Keeping
 pub mod Leaves
-pub mod Parts

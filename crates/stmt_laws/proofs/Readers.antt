@@ -1,13 +1,12 @@
 -- What is written so is read so: pieces one after the other, up to a word that ends them.
-use Rattle.std.proofs.Common.{◌≡◌, Bool, true, false, ◌&&◌, List, [], ◌∷◌, ◌++◌, Option, Some, None, refl, ap, sym, subst, ◌∙◌, if◌then◌else◌}
+use Rattle.std.proofs.Common.{◌≡◌, Bool, true, false, List, [], ◌∷◌, ◌++◌, Some, None, refl, ap, ◌∙◌, if◌then◌else◌}
 use Rattle.vdm_kinds.specs.declared.place.Place.{Place}
 use Rattle.vdm_kinds.specs.declared.name.Name.{Name}
 use Rattle.vdm_kinds.specs.declared.name_at.NameAt.{NameAt}
 use Rattle.grammar_words.specs.declared.word.Word.{Word}
-use Rattle.grammar_words.specs.declared.word.Word.TheVariants as word_is
 use Rattle.grammar_words.specs.Tokens.{Token, identifier, quote, whole as whole_token, character, text, make_named, is_named, plain, word_of}
-use Rattle.grammar_words.specs.Written.{Written, at, word}
-use Rattle.stmt_trees.specs.Pieces.{Piece, must, again, one_of, key, mark, may, IsFirst, Begin, Spelled}
+use Rattle.grammar_words.specs.Written.{at}
+use Rattle.stmt_trees.specs.Pieces.{Piece, must, again, one_of, mark, Spelled}
 use Rattle.stmt_laws.specs.Ends.{first_word}
 use Rattle.stmt_reading.specs.Leaves.{Read, onto, choice, word_in, is_word, name_in}
 
