@@ -1,0 +1,21 @@
+use Rattle.std.proofs.Common.{refl}
+use Rattle.stmt_fronts.proofs.worked.worked_specifications.Goals as goal
+
+pub returns : goal.returns
+returns c = record {
+  counting = refl;
+  buffer = refl;
+  adders = refl;
+  endless_call = refl;
+  gate = refl;
+  faulty_guard = refl;
+  threads = refl;
+  pair = refl;
+  handlers = refl;
+  clock = refl;
+  diamond = refl;
+  library = refl;
+  hosts = refl;
+  contracts = refl;
+  counting_cut = refl;
+}

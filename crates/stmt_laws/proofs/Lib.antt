@@ -1,0 +1,4 @@
+pub mod Stops
+pub mod Readers
+pub mod Keeping
+pub mod Leaves

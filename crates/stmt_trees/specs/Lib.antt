@@ -1,0 +1,8 @@
+pub mod Pieces
+pub mod Targets
+pub mod StmtSpelling
+pub mod StmtGrammar
+pub mod Heads
+pub mod ClassSpelling
+pub mod ClassGrammar
+pub mod Trees

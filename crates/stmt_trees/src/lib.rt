@@ -1,0 +1,2 @@
+//! Which statement, and which specification, a list of tokens is.
+#![tactic(auto)]
