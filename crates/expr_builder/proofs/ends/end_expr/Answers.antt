@@ -4,4 +4,4 @@ use Rattle.expr_builder.proofs.Ending.{ended-on}
 use Rattle.expr_builder.proofs.ends.end_expr.Goals as goal
 
 pub returns-in_ok-tree-in-Has : goal.returns-in_ok-tree-in-Has
-returns-in_ok-tree-in-Has c = rw c.in-Has.is (c.alone.ensures ∙ ap built_expr (ended-on _ _ _ _ c.in_ok-tree.ensures))
+returns-in_ok-tree-in-Has c = rw c.in-Has.is (c.alone.ensures ∙ ap built_expr (ended-on _ _ _ _ c.in_ok-tree-in-Has.ensures))
