@@ -42,9 +42,3 @@ pub pattern-by : (r : Result (Option Pattern) OutOfMemory) (ts : List Token) (fs
     → IfOk r (λ built. option_map pattern_view built ≡ built_pattern (ended s)) → IfOk r (λ built. option_map pattern_view built ≡ pattern_of ts)
 pattern-by (Ok built) ts fs s none is h = h ∙ ap built_pattern (sym is ∙ ap (λ (f : List KeptFrame). run type_of ts (in_mode wants_pattern (stack_view f))) none)
 pattern-by (Err x) ts fs s none is h = tt
-
-pub no-expr-by : (ts : List Token) (fs : List KeptFrame) → fs ≡ [] → run type_of ts (in_mode wants (stack_view fs)) ≡ nothing → None ≡ expr_of ts
-no-expr-by ts fs none is = sym (ap (λ (f : List KeptFrame). built_expr (run type_of ts (in_mode wants (stack_view f)))) (sym none) ∙ ap built_expr is)
-
-pub no-pattern-by : (ts : List Token) (fs : List KeptFrame) → fs ≡ [] → run type_of ts (in_mode wants_pattern (stack_view fs)) ≡ nothing → None ≡ pattern_of ts
-no-pattern-by ts fs none is = sym (ap (λ (f : List KeptFrame). built_pattern (run type_of ts (in_mode wants_pattern (stack_view f)))) (sym none) ∙ ap built_pattern is)
