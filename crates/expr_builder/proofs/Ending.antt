@@ -1,7 +1,7 @@
 -- What an expression becomes where frames end, step by step.
 use Rattle.std.proofs.Common.{◌≡◌, ℕ, suc, ◌-◌, List, [], ◌∷◌, ◌++◌, length, slice_get, Bool, true, false, if◌then◌else◌, nat_lt, Option, Some, None, MatchOption, Result, Ok, Err, IfOk, refl, ap, sym, ◌∙◌, arith}
 use Rattle.abstract_syntax.specs.Expressions.{ExprTree}
-use Rattle.grammar_trees.specs.Frames.{Frame, State, Built}
+use Rattle.grammar_trees.specs.Frames.{Frame, Built}
 use Rattle.grammar_trees.specs.Machine.{pull, completed, word_pull, follow_word, go_on, end_expr}
 use Rattle.grammar_trees.specs.Reading.{built_pattern}
 use Rattle.grammar_words.specs.declared.word.Word.{Word}

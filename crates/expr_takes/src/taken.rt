@@ -1,8 +1,9 @@
 // What frames make of an expression that a word ends.
 
-ghost use Rattle.std.specs.Prelude.{◌≡◌, IfOk};
+ghost use Rattle.std.specs.Prelude.{◌≡◌, List, IfOk};
 ghost use Rattle.expr_tree.specs.View.{view_of};
-ghost use Rattle.grammar_trees.specs.Machine.{taken, taken_by};
+ghost use Rattle.grammar_trees.specs.Machine.{no_tree, taken, taken_by};
+ghost use Rattle.tree_frames.specs.declared.frame.Frame.{Frame as FrameView};
 ghost use Rattle.tree_frames.specs.Views.{frame_view, stop_view, stack_view, state_view};
 
 use expr_parts::{
@@ -133,10 +134,45 @@ fn taken(
             let tree = boxed(alloc, Expr::cases(subject, cases, Some(tree), place))?;
             Ok(next_at(Stop::End, Mode::Has(tree), stop))
         }
-        frame => {
-            frame.discard();
-            Mode::Has(tree).discard();
-            Ok(None)
+        Frame::OperandOf(sign, place) => Ok(refused(Frame::OperandOf(sign, place), tree)),
+        Frame::RightOf(left, sign, place) => Ok(refused(Frame::RightOf(left, sign, place), tree)),
+        Frame::Body(body, place) => Ok(refused(Frame::Body(body, place), tree)),
+        Frame::BindPatterns(purpose, binds, patterns, place) => {
+            Ok(refused(Frame::BindPatterns(purpose, binds, patterns, place), tree))
         }
+        Frame::SequenceBound(item, place) => Ok(refused(Frame::SequenceBound(item, place), tree)),
+        Frame::LetStart(place) => Ok(refused(Frame::LetStart(place), tree)),
+        Frame::LetNext(definitions, place) => {
+            Ok(refused(Frame::LetNext(definitions, place), tree))
+        }
+        Frame::DefPattern(place) => Ok(refused(Frame::DefPattern(place), tree)),
+        Frame::CasePatterns(subject, cases, patterns, place) => {
+            Ok(refused(Frame::CasePatterns(subject, cases, patterns, place), tree))
+        }
+        Frame::PatternItems(purpose, patterns, place) => {
+            Ok(refused(Frame::PatternItems(purpose, patterns, place), tree))
+        }
+        Frame::TuplePatternStart(place) => Ok(refused(Frame::TuplePatternStart(place), tree)),
+        Frame::PatternKey(maplets, place) => Ok(refused(Frame::PatternKey(maplets, place), tree)),
+        Frame::PatternValue(maplets, key, place) => {
+            Ok(refused(Frame::PatternValue(maplets, key, place), tree))
+        }
+        Frame::Concatenated(patterns, place) => {
+            Ok(refused(Frame::Concatenated(patterns, place), tree))
+        }
+        Frame::TestType(tested, place) => Ok(refused(Frame::TestType(tested, place), tree)),
+        Frame::LetType(definitions, pattern, place) => {
+            Ok(refused(Frame::LetType(definitions, pattern, place), tree))
+        }
+        Frame::TypeBracket => Ok(refused(Frame::TypeBracket, tree)),
     }
+}
+
+/// No tree goes on where the frame takes no expression that a word ends; both go.
+fn refused(frame: Frame, tree: Box<Expr>) -> Option<Mode>
+    ensures { (frames : List FrameView) → state_view result frames ≡ no_tree }
+{
+    frame.discard();
+    Mode::Has(tree).discard();
+    None
 }
