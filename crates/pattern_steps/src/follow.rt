@@ -1,6 +1,6 @@
 // What follows a pattern.
 
-ghost use Rattle.std.specs.Prelude.{◌≡◌, ◌∷◌, IfOk};
+ghost use Rattle.std.specs.Prelude.{◌≡◌, [], ◌∷◌, IfOk, MatchOption};
 ghost use Rattle.expr_tree.specs.View.{pattern_view, pattern_views, pattern_trees};
 ghost use Rattle.grammar_tokens.specs.View.{token_view};
 ghost use Rattle.abstract_syntax.specs.Expressions.{pattern_place};
@@ -14,7 +14,7 @@ use expr_tree::Pattern;
 use grammar_tokens::Token;
 use grammar_words::Word;
 use std::alloc::Global;
-use tree_frames::{Frame, Mode, popped, pushed, with_pattern};
+use tree_frames::{Frame, Mode, pushed, with_pattern};
 use tree_nodes::{joins, opened_pattern, stop_of};
 use vdm_kinds::{OutOfMemory, Place};
 
@@ -42,13 +42,35 @@ fn follow_word(
 ) -> Result<Option<Mode>, OutOfMemory>
     ensures { IfOk result (λ next. state_view next frames.new.items ≡ follow_pattern_word word (pattern_view pattern) (stack_view frames.old.items)) }
 {
-    match popped(frames) {
+    match innermost(frames) {
         None => follow_alone(alloc, pattern, word, frames),
-        Some(Frame::Concatenated(patterns, place)) => {
+        Some(frame) => follow_framed(alloc, frame, pattern, word, frames),
+    }
+}
+
+/// The innermost frame, which is taken off; where there is none, nothing is open afterwards either.
+fn innermost(frames: &mut Vec<Frame>) -> Option<Frame>
+    ensures { MatchOption result ((stack_view frames.old.items ≡ []) × (stack_view frames.new.items ≡ [])) (λ frame. stack_view frames.old.items ≡ frame_view frame ∷ stack_view frames.new.items) }
+{
+    frames.pop()
+}
+
+/// A word behind a pattern that is read for a frame.
+fn follow_framed(
+    alloc: Global,
+    frame: Frame,
+    pattern: Pattern,
+    word: Word,
+    frames: &mut Vec<Frame>,
+) -> Result<Option<Mode>, OutOfMemory>
+    ensures { IfOk result (λ next. state_view next frames.new.items ≡ follow_pattern_word word (pattern_view pattern) (frame_view frame ∷ stack_view frames.old.items)) }
+{
+    match frame {
+        Frame::Concatenated(patterns, place) => {
             let patterns = with_pattern(patterns, pattern)?;
             follow_joined(alloc, patterns, word, place, frames)
         }
-        Some(frame) => follow_single(alloc, frame, pattern, word, frames),
+        frame => follow_single(alloc, frame, pattern, word, frames),
     }
 }
 
