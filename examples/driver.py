@@ -182,21 +182,20 @@ def name(line, asked):
 
 
 def lexed(line, asked):
-    """lex PART TEXT, places, type, pattern and expression likewise"""
+    """lex PART TEXT, places, type, pattern, expression and statement likewise"""
     part, _, text = asked.partition(" ")
     line.put(read(line, part, Reader.part), word_of(text))
 
 
-def tokens(line, asked):
-    """tokens PART TEXT, tokens PART TEXT %| TEXT, spots and token-names likewise"""
-    text, *others = parts_of(asked, 1, 2)
-    lexed(line, text)
-    line.put(*map(word_of, others))
-
-
 def text(line, asked):
-    """spec TEXT, accepts TEXT"""
+    """spec TEXT, accepts TEXT, specification TEXT, classes TEXT"""
     line.put(word_of(asked))
+
+
+def cuts(line, asked):
+    """cuts KIND TEXT, where the kind is statement or specification"""
+    kind, _, text = asked.partition(" ")
+    line.put(kind, word_of(text))
 
 
 def main(line, asked):
@@ -209,7 +208,8 @@ def main(line, asked):
 
 
 def time(line, asked):
-    """time set KIND N, time lex KIND N, time text KIND N, time operator KIND N, time bind KIND N"""
+    """time set KIND N, time lex KIND N, time text KIND N, time operator KIND N, time bind KIND N,
+    time grammar KIND N, time statement KIND N, time specification KIND N"""
     line.put(*asked.split(" "))
 
 
@@ -466,9 +466,9 @@ REQUESTS = {
     **dict.fromkeys(["take", "refusal", "fault"], number),
     "names": names,
     "name": name,
-    **dict.fromkeys(["lex", "places", "type", "pattern", "expression"], lexed),
-    **dict.fromkeys(["tokens", "spots", "token-names"], tokens),
-    **dict.fromkeys(["spec", "accepts"], text),
+    **dict.fromkeys(["lex", "places", "type", "pattern", "expression", "statement"], lexed),
+    **dict.fromkeys(["spec", "accepts", "specification", "classes"], text),
+    "cuts": cuts,
     "main": main,
     "time": time,
     **dict.fromkeys(["order", "rising", "apart", "same", "taken", "size", "value", "part"], values),

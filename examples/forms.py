@@ -25,16 +25,19 @@ No text may stand above the last three lines of `stdin`, and nothing below those
 `vdm` as a shell reads them: quotes and backslashes count, nothing else does. Before they are read, each `%{N TEXT%}`
 is written out as TEXT N times, where each @ in TEXT is the number of the turn, from 0.
 
-**A row of a table, `tables/TOPIC.table`.** The program gets words, standard input gives nothing, and standard output
-must get the answer. A request begins in column 1, and below it stands its answer, each line behind four blanks. A line
-that begins with `#` is a comment, and an empty line is nothing. The comment right above a request is one word, the
-row's name. The first line that is no comment says what each request of the table is:
+**A row of a table, `tables/TOPIC.table`.** The program gets words and standard input, and standard output must get the
+answer. A request begins in column 1, and below it stands its answer, each line behind four blanks. A line that begins
+with `#` is a comment, and an empty line is nothing. The comment right above a request is one word, the row's name. The
+first line that is no comment says what each request of the table is; standard input gives nothing but under `check`:
 
     vdm run EXPR              the word behind `run`, as it stands
     vdm WORDS                 `vdm` and words, as in the footer of a file
+    vdm check TEXT            standard input, where `\n` is a line feed and `\\` a backslash; before, each `%{N TEXT%}`
+                              is written out as in words
+    vdm check BYTES           how many bytes standard input gives, the first of `counter.vdmpp`
 
-The status that is wanted goes with the first word of the answer's last line: `result:` 0, `refused:` 1, `usage:` 2,
-`fault:` 3, `read` 6.
+The status that is wanted goes with the first word of the answer's last line: `result:` and `checked:` 0, `refused:` 1,
+`usage:` 2, `fault:` 3, `read` 6.
 
 **A folder, `cases/NAME/`,** where neither of these can hold the bytes. They are UTF-8, and no character of them is a
 control, line feeds aside, or another that editors may change; no blank at the end of a line should matter, and no word
@@ -57,12 +60,14 @@ are, puts the request into words for the driver, and what the driver answers bac
 import re
 import shlex
 from contextlib import contextmanager
+from pathlib import Path
 from typing import NamedTuple
 
 from driver import BadRequest, words_for
 
+COUNTER = Path(__file__).resolve().parent / "counter.vdmpp"
 FILES = {"args", "word", "stdin", "stdout", "status", "setup"}
-STATUSES = {"result:": 0, "refused:": 1, "usage:": 2, "fault:": 3, "read": 6}
+STATUSES = {"result:": 0, "checked:": 0, "refused:": 1, "usage:": 2, "fault:": 3, "read": 6}
 NO_LINE_FEED = "no last line feed"
 INDENT = "    "
 # Above its first line that begins with the mark, the lines that do, and the rest.
@@ -155,11 +160,11 @@ class FolderCase(Case):
 class TableRow(Case):
     kind = "rows of tables"
 
-    def __init__(self, path, entry, words):
+    def __init__(self, path, entry, asked_by):
         if len(entry.above.split()) != 1:
             raise BadCase("no comment right above this request names it with one word")
         super().__init__(path, entry.above, path.stem)
-        self.words, self.status = words(entry.text), status_of(entry.answer)
+        (self.words, self.text), self.status = asked_by(entry.text), status_of(entry.answer)
         self.stdout = "".join(f"{it}\n" for it in entry.answer).encode()
 
     @classmethod
@@ -298,11 +303,29 @@ def words_of(text):
     return [it.encode() for it in words]
 
 
-def word_behind_run(text):
-    return [b"run", text.encode()]
+def by_expression(text):
+    return [b"run", text.encode()], b""
 
 
-REQUESTS = {"vdm run EXPR": word_behind_run, "vdm WORDS": words_of}
+def by_words(text):
+    return words_of(text), b""
+
+
+def by_text(text):
+    written = re.sub(r"\\[n\\]", lambda found: "\n" if found[0] == "\\n" else "\\", written_out(text))
+    return [b"check"], written.encode()
+
+
+def by_bytes(text):
+    return [b"check"], COUNTER.read_bytes()[: number_of(text)]
+
+
+REQUESTS = {
+    "vdm run EXPR": by_expression,
+    "vdm WORDS": by_words,
+    "vdm check TEXT": by_text,
+    "vdm check BYTES": by_bytes,
+}
 
 
 def status_of(answer):

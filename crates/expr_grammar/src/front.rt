@@ -1,34 +1,22 @@
 // The front of a text that is read as a tree.
 
-ghost use Rattle.std.specs.Prelude.{◌≡◌, ◌≤◌, ◌<◌, ◌^◌, length, take, drop, Err, IfOk, OnOk};
+ghost use Rattle.std.specs.Prelude.{◌≡◌, ◌<◌, ◌^◌, length, Err, IfOk, OnOk};
 ghost use Rattle.vdm_kinds.specs.declared.spec_fault.SpecFault.{SpecFault};
+ghost use Rattle.grammar_fronts.specs.Fronts.{front_of};
 ghost use Rattle.grammar_tokens.specs.View.{token_views};
-ghost use Rattle.token_reader.specs.Read.{AreReadable, KeepsNames, names_behind};
-ghost use Rattle.expr_grammar.specs.Answers.{AreOf, fault_before, names_read};
-ghost use Rattle.expr_grammar.specs.FrontRead.{IsDeep, IsFrontRead, IsReach};
+ghost use Rattle.token_reader.specs.Read.{KeepsNames};
+ghost use Rattle.word_reader.specs.Words.{words_from};
+ghost use Rattle.text_answers.specs.Answers.{AreOf, names_read};
+ghost use Rattle.text_fronts.specs.FrontRead.{IsDeep, IsFrontRead};
 
-use crate::pieces::{behind, first_place, lexemes_behind, taken, widths};
 use front_reader::front_of;
-use grammar_fronts::{Front, Kind, Reach};
-use grammar_tokens::Token;
-use grammar_words::PlacedWord;
+use grammar_fronts::Kind;
 use std::alloc::Global;
-use token_reader::tokens_of;
-use vdm_kinds::{Halt, OutOfMemory, SpecFault, SpecKind};
+use text_fronts::FrontRead;
+use vdm_kinds::{Halt, SpecFault};
 use vdm_lexer::Lexeme;
 use vdm_names::Names;
 use word_reader::words_of;
-
-/// What was read of a text, before its tree.
-#[derive(Drop)]
-pub struct FrontRead {
-    /// The tokens of the longest viable front.
-    pub tokens: Vec<Token>,
-    /// The number of the lexeme behind it.
-    pub next: usize,
-    /// Why the text is refused, if the front is no tree.
-    pub fault: SpecFault,
-}
 
 /// The longest viable front of a text from the lexeme with this number on. It is refused where a word of it is too deep.
 pub fn read_front(
@@ -42,59 +30,12 @@ pub fn read_front(
     requires lexemes { AreOf text.now lexemes.now }
     requires at { at < length lexemes.now }
     requires names { length names.old < 2 ^ 31 }
-    ensures read { IfOk result (λ read. IsFrontRead kind names.old text.now lexemes.now at (token_views read.tokens.items) read.next read.fault) }
-    ensures deep { (fault : SpecFault) → result ≡ Err (Halt.Of fault) → IsDeep kind text.now lexemes.now at fault }
+    ensures read { IfOk result (λ read. IsFrontRead (front_of kind (words_from text.now lexemes.now at)) names.old text.now lexemes.now at (words_from text.now lexemes.now at) (token_views read.tokens.items) read.next read.fault) }
+    ensures deep { (fault : SpecFault) → result ≡ Err (Halt.Of fault) → IsDeep (front_of kind (words_from text.now lexemes.now at)) fault }
     ensures names { OnOk result (names.new ≡ names_read kind names.old text.now lexemes.now at) }
     ensures kept { KeepsNames names.old names.new }
 {
     let words = words_of(alloc, text, lexemes, at)?;
-    match front_of(alloc, kind, &words)? {
-        Front::TooDeep(place) => Err(Halt::Of(SpecFault {
-            kind: SpecKind::TooDeep,
-            place,
-        })),
-        Front::Reaches(reach) => Ok(read_reach(alloc, reach, text, lexemes, at, &words, names)?),
-    }
-}
-
-/// The words of a text, of which so many are read.
-fn read_reach(
-    alloc: Global,
-    reach: Reach,
-    text: &[u8],
-    lexemes: &[Lexeme],
-    at: usize,
-    words: &[PlacedWord],
-    names: &mut Names,
-) -> Result<FrontRead, OutOfMemory>
-    requires readable { AreReadable text.now lexemes.now }
-    requires at { at < 2 ^ 31 }
-    requires few { length words.now < 2 ^ 31 }
-    requires names { length names.old < 2 ^ 31 }
-    ensures read { IfOk result (λ read. IsReach names.old text.now lexemes.now at words.now reach (token_views read.tokens.items) read.next read.fault) }
-    ensures names { OnOk result (names.new ≡ names_behind names.old text.now (drop at lexemes.now) (take reach.words words.now)) }
-    ensures kept { KeepsNames names.old names.new }
-{
-    let front = taken(words, reach.words);
-    let tokens = tokens_of(alloc, text, lexemes_behind(lexemes, at), front, names)?;
-    Ok(FrontRead {
-        tokens,
-        next: at + widths(front),
-        fault: fault_before(reach.left_out, behind(words, reach.words)),
-    })
-}
-
-/// The fault of words that no tree goes on with.
-fn fault_before(left_out: bool, words: &[PlacedWord]) -> SpecFault
-    ensures { result ≡ fault_before left_out words.now }
-{
-    let kind = if left_out {
-        SpecKind::LeftOut
-    } else {
-        SpecKind::SyntaxFault
-    };
-    SpecFault {
-        kind,
-        place: first_place(words),
-    }
+    let front = front_of(alloc, kind, &words)?;
+    text_fronts::read_front(alloc, front, text, lexemes, at, &words, names)
 }

@@ -4,7 +4,6 @@
 mod exprs;
 mod front;
 mod patterns;
-mod pieces;
 mod types;
 
 pub use exprs::expr_of_tokens;

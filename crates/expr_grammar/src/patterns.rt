@@ -6,7 +6,7 @@ ghost use Rattle.grammar_fronts.specs.declared.kind.Kind.TheVariants as kind_of;
 ghost use Rattle.grammar_trees.specs.Reading.{pattern_of};
 ghost use Rattle.expr_tree.specs.View.{pattern_view};
 ghost use Rattle.token_reader.specs.Read.{KeepsNames};
-ghost use Rattle.expr_grammar.specs.Answers.{AreOf, answer, names_read};
+ghost use Rattle.text_answers.specs.Answers.{AreOf, answer, names_read};
 
 use crate::front::read_front;
 use expr_builder::build_pattern;

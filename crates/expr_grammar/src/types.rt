@@ -6,7 +6,7 @@ ghost use Rattle.grammar_fronts.specs.declared.kind.Kind.TheVariants as kind_of;
 ghost use Rattle.type_tree.specs.TypeView.{type_view};
 ghost use Rattle.type_reading.specs.Reading.{type_of};
 ghost use Rattle.token_reader.specs.Read.{KeepsNames};
-ghost use Rattle.expr_grammar.specs.Answers.{AreOf, answer, names_read};
+ghost use Rattle.text_answers.specs.Answers.{AreOf, answer, names_read};
 
 use crate::front::read_front;
 use grammar_fronts::Kind;

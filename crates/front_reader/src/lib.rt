@@ -7,3 +7,4 @@ mod reading;
 mod wanted_stack;
 
 pub use reader::front_of;
+pub use wanted_stack::{Met, WantedStack};

@@ -13,7 +13,7 @@ ghost use Rattle.front_reader.specs.Readings.{refused_at, IsRefused, IsStep};
 use crate::open_nodes::OpenNodes;
 use crate::wanted_stack::{Met, WantedStack};
 use front_tables::Turn;
-use grammar_fronts::{Front, Kind, OpenNode, Reach, Wanted};
+use grammar_fronts::{Front, Kind, OpenNode, Reach};
 use grammar_words::{PlacedWord, Word};
 use std::alloc::Global;
 use vdm_kinds::{OutOfMemory, Place};
@@ -47,26 +47,13 @@ fn pull_of(turn: Turn) -> u32
     }
 }
 
-/// What is wanted at the beginning.
-fn start(kind: Kind) -> Wanted
-    ensures { viable.start kind ≡ result ∷ [] }
-{
-    match kind {
-        Kind::TypeExpr => Wanted::WholeType,
-        Kind::Pattern => Wanted::Pattern,
-        Kind::Expr => Wanted::Expression,
-    }
-}
-
 impl Reading {
     /// Nothing was read yet.
     pub(crate) fn new(alloc: Global, kind: Kind) -> Result<Reading, OutOfMemory>
         ensures { IfOk result (λ r. (r.wanted ≡ viable.start kind) × (r.nodes ≡ [])) }
     {
-        let mut wanted = WantedStack::new(alloc);
-        wanted.put(&[start(kind)])?;
         Ok(Reading {
-            wanted,
+            wanted: WantedStack::start(alloc, kind)?,
             nodes: OpenNodes::new(alloc),
         })
     }

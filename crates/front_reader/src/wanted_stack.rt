@@ -1,17 +1,18 @@
 // What is wanted, as a stack.
 
-ghost use Rattle.std.specs.Prelude.{◌≡◌, ◌<◌, [], ◌∷◌, ◌++◌, length, MatchOption, OnOk};
+ghost use Rattle.std.specs.Prelude.{◌≡◌, ◌<◌, [], ◌∷◌, ◌++◌, length, MatchOption, IfOk, OnOk};
+ghost use Rattle.grammar_fronts.specs.Viable.{start};
 ghost use Rattle.front_reader.specs.Readings.{IsMet};
 
 use front_tables::{Turn, is_left_out_at, is_optional, turn_of};
-use grammar_fronts::Wanted;
+use grammar_fronts::{Kind, Wanted};
 use grammar_words::Word;
 use std::alloc::Global;
 use std::marker::Model;
 use vdm_kinds::OutOfMemory;
 
 /// What a word meets.
-pub(crate) enum Met {
+pub enum Met {
     /// Something takes it, and what stood before that was left out.
     Takes(Turn),
     Refuses {
@@ -24,7 +25,7 @@ pub(crate) enum Met {
 
 /// What is wanted, the next at the front.
 #[derive(Drop)]
-pub(crate) struct WantedStack {
+pub struct WantedStack {
     // The next is the last.
     items: Vec<Wanted>,
 }
@@ -38,9 +39,29 @@ impl Model for WantedStack {
     ghost view = { λ s. reverse s.items.items };
 }
 
+/// What is wanted at the beginning.
+fn start(kind: Kind) -> Wanted
+    ensures { start kind ≡ result ∷ [] }
+{
+    match kind {
+        Kind::TypeExpr => Wanted::WholeType,
+        Kind::Pattern => Wanted::Pattern,
+        Kind::Expr => Wanted::Expression,
+    }
+}
+
 impl WantedStack {
+    /// What is wanted at the beginning.
+    pub fn start(alloc: Global, kind: Kind) -> Result<WantedStack, OutOfMemory>
+        ensures { IfOk result (λ wanted. wanted ≡ start kind) }
+    {
+        let mut wanted = WantedStack::new(alloc);
+        wanted.push(start(kind))?;
+        Ok(wanted)
+    }
+
     /// Nothing is wanted.
-    pub(crate) fn new(alloc: Global) -> WantedStack
+    fn new(alloc: Global) -> WantedStack
         ensures { result ≡ [] }
     {
         WantedStack {
@@ -49,7 +70,7 @@ impl WantedStack {
     }
 
     /// How much is wanted.
-    pub(crate) fn len(&self) -> usize
+    pub fn len(&self) -> usize
         ensures length { result ≡ length self.now }
         ensures bounded { result < usize.MAX }
     {
@@ -71,7 +92,7 @@ impl WantedStack {
     }
 
     /// These are wanted before all others.
-    pub(crate) fn put(&mut self, front: &[Wanted]) -> Result<(), OutOfMemory>
+    pub fn put(&mut self, front: &[Wanted]) -> Result<(), OutOfMemory>
         ensures { OnOk result (self.new ≡ front.now ++ self.old) }
     {
         let mut rest = front;
@@ -83,7 +104,7 @@ impl WantedStack {
     }
 
     /// The word takes the place of the first of these that wants it; what stands before that is left out.
-    pub(crate) fn meet(&mut self, word: Word) -> Met
+    pub fn meet(&mut self, word: Word) -> Met
         ensures { IsMet word self.old self.new result }
     {
         let mut left_out = false;

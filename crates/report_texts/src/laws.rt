@@ -1,6 +1,6 @@
 // The laws of words and texts, and texts worked out. Each is the contract of a function that does nothing.
 
-ghost use Rattle.std.specs.Prelude.{◌≡◌, ℕ, Bool, List, [], ◌∷◌, ◌++◌, true, false, ◌^◌, ◌-◌, codes, negsuc};
+ghost use Rattle.std.specs.Prelude.{◌≡◌, ℕ, List, [], ◌∷◌, ◌++◌, true, false, ◌^◌, ◌-◌, codes, negsuc};
 ghost use Rattle.vdm_kinds.specs.declared.run_fault.RunFault.TheVariants.{Overflow, UncaughtExit};
 ghost use Rattle.vdm_kinds.specs.declared.spec_kind.SpecKind.TheVariants.{SyntaxFault};
 ghost use Rattle.vdm_values.specs.declared.slot.Slot.TheVariants.{Unset, Held};
@@ -19,14 +19,27 @@ ghost use Rattle.report_texts.specs.Log.{log_line};
 ghost use Rattle.report_texts.specs.Output.{output};
 ghost use Rattle.report_texts.specs.Worked.{names, class, named, operation, variable, whole};
 ghost use Rattle.report_texts.specs.Worked.{red, characters, pair, in_expression, in_specification, waits};
-ghost use Rattle.report_texts.specs.Words.{IsRunCommand};
+ghost use Rattle.report_texts.specs.Words.{Command, check, run, IsCommand, IsNoCommand};
 ghost use Rattle.report_texts.specs.Lines.{thread_text, refused_line, failed_line, result_line, checked_line};
 ghost use Rattle.report_texts.specs.Lines.{made_line, deadlock_line, ticks_over_line, journal_full_line};
 
 /// The words of a command line are at most one command.
 pub fn one_command()
-    ensures { (words : List (List ℕ)) (a b : List ℕ) (m n : Bool)
-        → IsRunCommand words a m → IsRunCommand words b n → (a ≡ b) × (m ≡ n) }
+    ensures { (words : List (List ℕ)) (a b : Command) → IsCommand words a → IsCommand words b → a ≡ b }
+{}
+
+/// Words that are a command, and words that are none.
+pub fn worked_commands()
+    ensures checked { IsCommand (codes "check" ∷ []) check }
+    ensures run_ { IsCommand (codes "run" ∷ codes "1 + 1" ∷ []) (run (codes "1 + 1") false) }
+    ensures logged { IsCommand (codes "run" ∷ codes "1" ∷ codes "--log" ∷ []) (run (codes "1") true) }
+    ensures option_as_text { IsCommand (codes "run" ∷ codes "--log" ∷ []) (run (codes "--log") false) }
+    ensures none { IsNoCommand [] }
+    ensures no_text { IsNoCommand (codes "run" ∷ []) }
+    ensures check_of_a_text { IsNoCommand (codes "check" ∷ codes "1" ∷ []) }
+    ensures check_with_log { IsNoCommand (codes "check" ∷ codes "--log" ∷ []) }
+    ensures twice_logged { IsNoCommand (codes "run" ∷ codes "1" ∷ codes "--log" ∷ codes "--log" ∷ []) }
+    ensures other_letters { IsNoCommand (codes "Check" ∷ []) }
 {}
 
 /// Values as they are written.

@@ -21,6 +21,7 @@ pub(crate) fn say_report(line: &mut Line<'_>, report: &Report) {
 fn say_end(line: &mut Line<'_>, end: &End) {
     match end {
         End::Ended(slot) => say_ended(line, slot),
+        End::Checked(classes) => say_checked(line, *classes),
         End::Refused(fault) => say_refused(line, *fault),
         End::Failed {
             fault,
@@ -40,6 +41,11 @@ fn say_end(line: &mut Line<'_>, end: &End) {
 fn say_ended(line: &mut Line<'_>, slot: &Slot) {
     line.say("ended ");
     line.show(slot);
+}
+
+fn say_checked(line: &mut Line<'_>, classes: u64) {
+    line.say("checked ");
+    line.say_number(classes);
 }
 
 fn say_refused(line: &mut Line<'_>, fault: SpecFault) {

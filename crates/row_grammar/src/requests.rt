@@ -2,19 +2,17 @@
 // behind it and the names that it has, or the fault.
 
 ghost use Rattle.std.specs.Prelude.{◌<◌, ◌^◌, length};
-ghost use Rattle.expr_grammar.specs.Answers.{AreOf};
+ghost use Rattle.text_answers.specs.Answers.{AreOf};
 
 use expr_grammar::{expr_of_tokens, pattern_of_tokens, type_of_tokens};
+use row_answers::{say_behind, say_halt};
 use row_notation::{say_expr, say_pattern, say_type};
 use row_words::Line;
-use vdm_kinds::{Halt, Name, SpecFault};
 use vdm_lexer::{Lexeme, lex};
 use vdm_names::Names;
 
 /// More names than any row has.
 const MOST: usize = 1_000_000;
-/// How many names there are before any text.
-const BUILT_IN: usize = 3;
 
 /// Answers a request; tells whether the word is one of this library's.
 pub fn answer(names: &mut Names, line: &mut Line<'_>, word: &str) -> bool {
@@ -94,24 +92,5 @@ fn answer_expr(names: &mut Names, line: &mut Line<'_>, text: &[u8], lexemes: &[L
             say_behind(line, names, next);
         }
         Err(halt) => say_halt(line, halt),
-    }
-}
-
-fn say_halt(line: &mut Line<'_>, halt: Halt<SpecFault>) {
-    match halt {
-        Halt::Of(fault) => line.say_refusal(fault),
-        Halt::OutOfMemory => line.fall_short(),
-    }
-}
-
-// The number of the lexeme behind a tree, and the names that it has.
-fn say_behind(line: &mut Line<'_>, names: &Names, next: usize) {
-    line.say(" before ");
-    line.say_count(next);
-    for number in BUILT_IN..names.len() {
-        line.say(if number == BUILT_IN { " with " } else { " " });
-        if let Ok(number) = u32::try_from(number) {
-            line.say(names.text(Name(number)).unwrap_or(""));
-        }
     }
 }

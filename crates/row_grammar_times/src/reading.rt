@@ -1,7 +1,7 @@
 // What is timed.
 
 ghost use Rattle.std.specs.Prelude.{◌<◌, ◌^◌, length};
-ghost use Rattle.expr_grammar.specs.Answers.{AreOf};
+ghost use Rattle.text_answers.specs.Answers.{AreOf};
 
 use expr_grammar::{expr_of_tokens, pattern_of_tokens, type_of_tokens};
 use std::alloc::Global;

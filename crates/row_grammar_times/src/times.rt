@@ -2,7 +2,7 @@
 // has none, and the nanoseconds of the call that reads it and lets it go.
 
 ghost use Rattle.std.specs.Prelude.{◌<◌, ◌^◌, length};
-ghost use Rattle.expr_grammar.specs.Answers.{AreOf};
+ghost use Rattle.text_answers.specs.Answers.{AreOf};
 
 use crate::reading::read;
 use crate::texts::text_of;

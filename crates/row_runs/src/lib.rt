@@ -1,10 +1,9 @@
-//! Answers of rows on the texts and trees that the program reads so far, and on the plain store.
+//! Answers of rows on the texts and trees that the program reads, and on the plain store.
 //!
 //! A request is a word and the words behind it; the head of each module says which words it answers.
 #![tactic(auto)]
 
 mod stores;
-mod tokens;
 mod trees;
 
 use row_trees::TreeDesk;
@@ -13,7 +12,6 @@ use row_words::Line;
 /// Answers a request; tells whether the word is one of this library's.
 pub fn answer(desk: &mut TreeDesk, line: &mut Line<'_>, word: &str) -> bool {
     match word {
-        "tokens" | "spots" | "token-names" => tokens::answer(&mut desk.plain.names, line, word),
         "spec" | "accepts" => trees::specification(desk, line, word),
         "tree" | "expr" | "terms" => trees::answer(desk, line, word),
         "store" | "held" => stores::answer(desk, line, word),

@@ -1,10 +1,10 @@
 // `tree`: the last tree. `spec TEXT`: a specification, or its refusal. `accepts TEXT`: whether it is one. `expr TEXT`: the
 // tree of an expression behind a specification, or its refusal. `terms`: how many terms the last tree has.
 
-use first_reader::read_specification;
 use row_shown::{say_spec, say_tree};
 use row_trees::TreeDesk;
 use row_words::Line;
+use text_reader::read_specification;
 use vdm_kinds::{Halt, SpecFault};
 use vdm_names::Names;
 use vdm_tree::{Expr, Literal, Spec};

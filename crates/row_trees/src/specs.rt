@@ -4,11 +4,11 @@ ghost use Rattle.std.specs.Prelude.{◌≡◌};
 ghost use Rattle.vdm_kinds.specs.NameList.{built_in_names};
 
 use crate::tree_desk::TreeDesk;
-use first_reader::{read_expression, read_specification};
 use row_desk::MOST_NAMES;
 use row_words::Line;
 use std::alloc::Global;
 use std::mem;
+use text_reader::{read_expression, read_specification};
 use vdm_kinds::{Halt, Place, SpecFault};
 use vdm_names::Names;
 use vdm_tree::{Block, ClassDef, Expr, Spec, VariableItem};

@@ -1,143 +1,58 @@
--- What is found of tokens is their longest front that is viable.
-use Rattle.std.proofs.Common.{◌≡◌, ◌⊎◌, inl, inr, ℕ, ◌+◌, ◌≤◌, None, Bool, true, false, ◌||◌, List, [], ◌∷◌, ◌++◌, length, map, if◌then◌else◌, refl, ap, sym, subst, ◌∙◌, arith}
-use Rattle.std.proofs.lemmas.Bool.Decides.{nat_tests}
+-- Where reading in all ways stops, the longest front that is viable ends.
+use Rattle.std.proofs.Common.{◌≡◌, ℕ, ◌+◌, ◌≤◌, Option, Some, None, Bool, true, false, ◌||◌, List, [], ◌∷◌, ◌++◌, length, map, refl, ap, sym, subst, ◌∙◌, arith}
 use Rattle.std.proofs.lemmas.List.{length-append, take-append-le, take_all}
-use Rattle.std.specs.Prelude.{nat_lt, take}
-use Rattle.grammar_words.specs.Tokens.{Token, word_of}
+use Rattle.std.proofs.lemmas.List.Folds.{list_any-append}
+use Rattle.std.specs.Prelude.{suc, take}
+use Rattle.std.specs.List.{list_any}
+use Rattle.vdm_kinds.specs.declared.place.Place.{Place}
+use Rattle.grammar_words.specs.Tokens.{Token, word_of, token_place}
+use Rattle.grammar_fronts.specs.declared.front.Front.{Front}
+use Rattle.grammar_fronts.specs.declared.front.Front.TheVariants.{TooDeep, Reaches}
+use Rattle.grammar_fronts.specs.declared.front.Reach.{Reach}
 use Rattle.stmt_fronts.specs.declared.kind.Kind.{Kind}
-use Rattle.stmt_fronts.specs.Viable.{State, Way, way_on, ways, in_one, can_take, start}
-use Rattle.stmt_fronts.specs.Fronts.{IsLongestViable, is_left_out, Reading, read_on, Found, stopped, one_more, either_way, better, best, best_of, found_on, place_of, found}
+use Rattle.stmt_fronts.specs.Viable.{State, ways, leads, can_take, start}
+use Rattle.stmt_fronts.specs.declared.ending.Ending.{Ending}
+use Rattle.stmt_fronts.specs.Fronts.{IsLongestViable, HasLongest, can_end, is_whole, Reading, read_on, read_all, ending, ending_at, deep_in_all, deep_now, one_is_whole, best, unless_deep, stopped, on_some, front_from, place_of, first_reading, front_of}
 
--- ---- one of several
+-- ---- tokens that are taken in one of several readings
 
-abbrev IsAmong : {A : Type 0} → A → List A → Type 0
-IsAmong a [] = ⊥
-IsAmong a (b ∷ others) = (a ≡ b) ⊎ IsAmong a others
+abbrev lead : (State → Bool) → List Token → List Reading → Bool
+lead test tokens readings = list_any (λ (reading : Reading). leads test tokens reading.state) readings
 
-record Passes {A : Type 0} (test : A → Bool) (all : List A) : Type 0 where
-  pub one : A
-  pub among : IsAmong one all
-  pub passes : test one ≡ true
+any_map : {A B : Type 0} (test : B → Bool) (f : A → B) (all : List A) → list_any test (map f all) ≡ list_any (λ a. test (f a)) all
+any_map test f [] = refl
+any_map test f (a ∷ others) = ap (λ b. test (f a) || b) (any_map test f others)
 
-one-or : {A : Type 0} (test : A → Bool) (a : A) (others : List A) (b : Bool) → test a ≡ b → (in_one test others ≡ true → Passes test others)
-    → (b || in_one test others) ≡ true → Passes test (a ∷ others)
-one-or test a others true is more e = record { one = a; among = inl refl; passes = is }
-one-or test a others false is more e = let p = more e in record { one = p.one; among = inr p.among; passes = p.passes }
+-- a token is taken where one of the readings goes on behind it
+lead-on : (test : State → Bool) (token : Token) (tokens : List Token) (readings : List Reading)
+    → lead test (token ∷ tokens) readings ≡ lead test tokens (read_all token readings)
+lead-on test token tokens [] = refl
+lead-on test token tokens (reading ∷ others) =
+    let passes : Reading → Bool = λ (r : Reading). leads test tokens r.state in
+    let first : list_any passes (map (read_on (token_place token) reading) (ways token reading.state)) ≡ leads test (token ∷ tokens) reading.state =
+    any_map passes (read_on (token_place token) reading) (ways token reading.state) in
+    ap (λ b. leads test (token ∷ tokens) reading.state || b) (lead-on test token tokens others)
+    ∙ ap (λ b. b || lead test tokens (read_all token others)) (sym first)
+    ∙ sym (list_any-append passes (map (read_on (token_place token) reading) (ways token reading.state)) (read_all token others))
 
-one-passes : {A : Type 0} (test : A → Bool) (all : List A) → in_one test all ≡ true → Passes test all
-one-passes test [] e = absurd (cc)
-one-passes test (a ∷ others) e = one-or test a others (test a) refl (one-passes test others) e
+-- ---- how many tokens are taken
 
-or-true : (a b : Bool) → b ≡ true → (a || b) ≡ true
-or-true true b e = refl
-or-true false b e = e
+abbrev pub counted : List Reading → (List Reading → ℕ) → ℕ
+counted [] further = 0
+counted (reading ∷ others) further = suc (further (reading ∷ others))
 
-passes-one : {A : Type 0} (test : A → Bool) (a : A) (all : List A) → IsAmong a all → test a ≡ true → in_one test all ≡ true
-passes-one test a [] k e = absurd k
-passes-one test a (b ∷ others) (inl same) e = ap (λ c. c || in_one test others) (sym (ap test same) ∙ e)
-passes-one test a (b ∷ others) (inr k) e = or-true (test b) (in_one test others) (passes-one test a others k e)
+abbrev pub taken : List Token → List Reading → ℕ
+taken [] readings = 0
+taken (token ∷ tokens) readings = counted (read_all token readings) (taken tokens)
 
-among-map : {A B : Type 0} (f : A → B) (a : A) (all : List A) → IsAmong a all → IsAmong (f a) (map f all)
-among-map f a [] k = absurd k
-among-map f a (b ∷ others) (inl same) = inl (ap f same)
-among-map f a (b ∷ others) (inr k) = inr (among-map f a others k)
-
-record Mapped {A B : Type 0} (f : A → B) (b : B) (all : List A) : Type 0 where
-  pub from : A
-  pub among : IsAmong from all
-  pub is : b ≡ f from
-
-map-among : {A B : Type 0} (f : A → B) (b : B) (all : List A) → IsAmong b (map f all) → Mapped f b all
-map-among f b [] k = absurd k
-map-among f b (a ∷ others) (inl same) = record { from = a; among = inl refl; is = same }
-map-among f b (a ∷ others) (inr k) = let m = map-among f b others k in record { from = m.from; among = inr m.among; is = m.is }
-
--- ---- the better of two, and the best of several
-
-record Better (a b c : Found) : Type 0 where
-  pub is : (c.tokens ≡ a.tokens) ⊎ (c.tokens ≡ b.tokens)
-  pub over_a : a.tokens ≤ c.tokens
-  pub over_b : b.tokens ≤ c.tokens
-
-pick : (x y : Bool) (p q r : Found) (n : ℕ) → p.tokens ≡ n → q.tokens ≡ n → r.tokens ≡ n → (if x then p else if y then q else r).tokens ≡ n
-pick true y p q r n a b c = a
-pick false true p q r n a b c = b
-pick false false p q r n a b c = c
-
-either-tokens : (a b : Found) → b.tokens ≡ a.tokens → (either_way a b).tokens ≡ a.tokens
-either-tokens a b same = pick a.whole b.whole _ _ _ a.tokens refl same refl
-
-lesser : (m n : ℕ) → nat_lt m n ≡ true → m ≤ n
-lesser m n e = grind (arith, nat_tests)
-
-not_lesser : (m n : ℕ) → nat_lt m n ≡ false → n ≤ m
-not_lesser m n e = grind (arith, nat_tests)
-
-better-by : (a b : Found) (x y : Bool) → nat_lt b.tokens a.tokens ≡ x → nat_lt a.tokens b.tokens ≡ y
-    → Better a b (if x then a else if y then b else either_way a b)
-better-by a b true y e f = record { is = inl refl; over_a = omega arith; over_b = lesser b.tokens a.tokens e }
-better-by a b false true e f = record { is = inr refl; over_a = lesser a.tokens b.tokens f; over_b = omega arith }
-better-by a b false false e f =
-    let m : a.tokens ≤ b.tokens = not_lesser b.tokens a.tokens e in
-    let n : b.tokens ≤ a.tokens = not_lesser a.tokens b.tokens f in
-    let same : b.tokens ≡ a.tokens = omega arith in
-    let is : (either_way a b).tokens ≡ a.tokens = either-tokens a b same in
-    record { is = inl is; over_a = omega arith; over_b = omega arith }
-
-better-is : (a b : Found) → Better a b (better a b)
-better-is a b = better-by a b (nat_lt b.tokens a.tokens) (nat_lt a.tokens b.tokens) refl refl
-
--- so many tokens are taken in one of the ways, and no more in any
-record Top (n : ℕ) (all : List Found) : Type 0 where
-  pub one : Found
-  pub among : IsAmong one all
-  pub is : one.tokens ≡ n
-  pub most : (other : Found) → IsAmong other all → other.tokens ≤ n
-
-top-one : (a : Found) (other : Found) → IsAmong other (a ∷ []) → other.tokens ≤ a.tokens
-top-one a other (inl same) = let e : other.tokens ≡ a.tokens = ap (λ (f : Found). f.tokens) same in omega arith
-top-one a other (inr k) = absurd k
-
-top-most : (n : ℕ) (a b c : Found) (others : List Found) → Better a b c → Top n (c ∷ others) → (other : Found) → IsAmong other (a ∷ b ∷ others)
-    → other.tokens ≤ n
-top-most n a b c others better t other (inl same) =
-    let e : other.tokens ≡ a.tokens = ap (λ (f : Found). f.tokens) same in
-    let over : c.tokens ≤ n = t.most c (inl refl) in
-    let under : a.tokens ≤ c.tokens = better.over_a in omega arith
-top-most n a b c others better t other (inr (inl same)) =
-    let e : other.tokens ≡ b.tokens = ap (λ (f : Found). f.tokens) same in
-    let over : c.tokens ≤ n = t.most c (inl refl) in
-    let under : b.tokens ≤ c.tokens = better.over_b in omega arith
-top-most n a b c others better t other (inr (inr k)) = t.most other (inr k)
-
-top-at : (n : ℕ) (a b c : Found) (others : List Found) → (m : (other : Found) → IsAmong other (a ∷ b ∷ others) → other.tokens ≤ n)
-    → (c.tokens ≡ a.tokens) ⊎ (c.tokens ≡ b.tokens) → c.tokens ≡ n → Top n (a ∷ b ∷ others)
-top-at n a b c others m (inl same) is = record { one = a; among = inl refl; is = sym same ∙ is; most = m }
-top-at n a b c others m (inr same) is = record { one = b; among = inr (inl refl); is = sym same ∙ is; most = m }
-
-top-by : (n : ℕ) (a b c : Found) (others : List Found) → Better a b c → (t : Top n (c ∷ others)) → IsAmong t.one (c ∷ others)
-    → Top n (a ∷ b ∷ others)
-top-by n a b c others better t (inl same) =
-    top-at n a b c others (top-most n a b c others better t) better.is (sym (ap (λ (f : Found). f.tokens) same) ∙ t.is)
-top-by n a b c others better t (inr k) =
-    record { one = t.one; among = inr (inr k); is = t.is; most = top-most n a b c others better t }
-
-best-top : (a : Found) (others : List Found) → Top (best a others).tokens (a ∷ others)
-best-top a [] = record { one = a; among = inl refl; is = refl; most = top-one a }
-best-top a (b ∷ others) =
-    let t = best-top (better a b) others in
-    top-by (best (better a b) others).tokens a b (better a b) others (better-is a b) t t.among
-
--- ---- tokens
-
--- so many are taken from a state on, and no longer front of them is
-record Longest (tokens : List Token) (state : State) (n : ℕ) : Type 0 where
+-- so many are taken in one of the readings, and no longer front of them is
+record Longest (tokens : List Token) (readings : List Reading) (n : ℕ) : Type 0 where
   pub front : List Token
   pub rest : List Token
   pub begins : tokens ≡ front ++ rest
   pub long : length front ≡ n
-  pub viable : can_take front state ≡ true
-  pub longest : (longer others : List Token) → tokens ≡ longer ++ others → can_take longer state ≡ true → length longer ≤ n
+  pub viable : lead (λ state. true) front readings ≡ true
+  pub longest : (longer others : List Token) → tokens ≡ longer ++ others → lead (λ state. true) longer readings ≡ true → length longer ≤ n
 
 head : Token → List Token → Token
 head token [] = token
@@ -147,96 +62,161 @@ tail : List Token → List Token
 tail [] = []
 tail (first ∷ tokens) = tokens
 
+-- no longer one than these, behind a token
+bounded : (token : Token) (tokens : List Token) (readings : List Reading) (n : ℕ)
+    → ((longer others : List Token) → tokens ≡ longer ++ others → lead (λ state. true) longer (read_all token readings) ≡ true → suc (length longer) ≤ n)
+    → (longer others : List Token) → token ∷ tokens ≡ longer ++ others → lead (λ state. true) longer readings ≡ true → length longer ≤ n
+unfolding head tail
+bounded token tokens readings n by [] others is e = omega arith
+bounded token tokens readings n by (first ∷ longer) others is e =
+    let same : first ≡ token = sym (ap (head token) is) in
+    by longer others (ap tail is)
+    (sym (lead-on (λ state. true) token longer readings) ∙ ap (λ t. lead (λ state. true) (t ∷ longer) readings) (sym same) ∙ e)
+
 no_longer : (longer others : List Token) → [] ≡ longer ++ others → length longer ≤ 0
 no_longer longer others is =
     let sum : 0 ≡ length longer + length others = ap length is ∙ length-append longer others in omega arith
 
--- no way to take the token
-stuck : (token : Token) (tokens : List Token) (state : State) → ways token state ≡ [] → (longer others : List Token)
-    → token ∷ tokens ≡ longer ++ others → can_take longer state ≡ true → length longer ≤ 0
-unfolding head
-stuck token tokens state none [] others is e = omega arith
-stuck token tokens state none (first ∷ longer) others is e =
-    let same : first ≡ token = sym (ap (head token) is) in
-    let no : in_one (λ (way : Way). can_take longer (way_on way)) (ways first state) ≡ false =
-    ap (λ t. in_one (λ (way : Way). can_take longer (way_on way)) (ways t state)) same
-    ∙ ap (in_one (λ (way : Way). can_take longer (way_on way))) none in
-    absurd (cc)
-
-one_way : (token : Token) (tokens : List Token) (state : State) (n : ℕ) (f : Way → Found) (all : List Way) → ways token state ≡ all
-    → ((way : Way) → Longest tokens (way_on way) (f way).tokens) → Top n (map (λ (way : Way). one_more (f way)) all)
-    → Longest (token ∷ tokens) state n
-unfolding head tail
-one_way token tokens state n f all is each t =
-    let m = map-among (λ (way : Way). one_more (f way)) t.one all t.among in
-    let l = each m.from in
-    let taken : can_take (token ∷ l.front) state ≡ true =
-    ap (in_one (λ (way : Way). can_take l.front (way_on way))) is
-    ∙ passes-one (λ (way : Way). can_take l.front (way_on way)) m.from all m.among l.viable in
-    let count : (f m.from).tokens + 1 ≡ n = sym (ap (λ (g : Found). g.tokens) m.is) ∙ t.is in
-    let long : length l.front ≡ (f m.from).tokens = l.long in
-    record {
-      front = token ∷ l.front;
-      rest = l.rest;
-      begins = ap (λ ts. token ∷ ts) l.begins;
-      long = omega arith;
-      viable = taken;
-      longest = λ longer others same e. by longer others same e;
-    }
-  where
-    by : (longer others : List Token) → token ∷ tokens ≡ longer ++ others → can_take longer state ≡ true → length longer ≤ n
-    by [] others same e = omega arith
-    by (first ∷ longer) others same e =
-        let first_is : first ≡ token = sym (ap (head token) same) in
-        let takes : in_one (λ (way : Way). can_take longer (way_on way)) all ≡ true =
-        sym (ap (λ u. in_one (λ (way : Way). can_take longer (way_on way)) (ways u state)) first_is
-        ∙ ap (in_one (λ (way : Way). can_take longer (way_on way))) is) ∙ e in
-        let p = one-passes (λ (way : Way). can_take longer (way_on way)) all takes in
-        let short : length longer ≤ (f p.one).tokens = (each p.one).longest longer others (ap tail same) p.passes in
-        let most : (f p.one).tokens + 1 ≤ n = t.most (one_more (f p.one)) (among-map (λ (way : Way). one_more (f way)) p.one all p.among) in
-        omega arith
-
-some_way : (token : Token) (tokens : List Token) (none : Found) (state : State) (f : Way → Found) (all : List Way) → ways token state ≡ all
-    → none.tokens ≡ 0 → ((way : Way) → Longest tokens (way_on way) (f way).tokens)
-    → Longest (token ∷ tokens) state (best_of none (map (λ (way : Way). one_more (f way)) all)).tokens
-some_way token tokens none state f [] is zero each =
+behind-token : (token : Token) (tokens : List Token) (reading : Reading) (readings all : List Reading) → read_all token (reading ∷ readings) ≡ all
+    → ((first : Reading) (others : List Reading) → Longest tokens (first ∷ others) (taken tokens (first ∷ others)))
+    → Longest (token ∷ tokens) (reading ∷ readings) (counted all (taken tokens))
+behind-token token tokens reading readings [] is each =
     record {
       front = [];
       rest = token ∷ tokens;
       begins = refl;
-      long = sym zero;
+      long = refl;
       viable = refl;
-      longest = λ longer others same e. subst (λ k. length longer ≤ k) (sym zero) (stuck token tokens state is longer others same e);
+      longest = bounded token tokens (reading ∷ readings) 0 (λ longer others same e.
+          let none : lead (λ state. true) longer (read_all token (reading ∷ readings)) ≡ false = ap (lead (λ state. true) longer) is in
+          absurd (cc));
     }
-some_way token tokens none state f (way ∷ ways) is zero each =
-    one_way token tokens state (best (one_more (f way)) (map (λ (way : Way). one_more (f way)) ways)).tokens f (way ∷ ways) is each
-    (best-top (one_more (f way)) (map (λ (way : Way). one_more (f way)) ways))
+behind-token token tokens reading readings (first ∷ others) is each =
+    let l = each first others in
+    let n : ℕ = taken tokens (first ∷ others) in
+    record {
+      front = token ∷ l.front;
+      rest = l.rest;
+      begins = ap (λ ts. token ∷ ts) l.begins;
+      long = ap suc l.long;
+      viable = lead-on (λ state. true) token l.front (reading ∷ readings) ∙ ap (lead (λ state. true) l.front) is ∙ l.viable;
+      longest = bounded token tokens (reading ∷ readings) (suc n) (λ longer more same e.
+          let short : length longer ≤ n = l.longest longer more same (sym (ap (lead (λ state. true) longer) is) ∙ e) in omega arith);
+    }
 
-found-longest : (tokens : List Token) (reading : Reading) → Longest tokens reading.state (found_on tokens reading).tokens
-found-longest [] reading =
+taken-longest : (tokens : List Token) (reading : Reading) (readings : List Reading)
+    → Longest tokens (reading ∷ readings) (taken tokens (reading ∷ readings))
+taken-longest [] reading readings =
     record { front = []; rest = []; begins = refl; long = refl; viable = refl; longest = λ longer others is e. no_longer longer others is }
-found-longest (token ∷ tokens) reading =
-    some_way token tokens (stopped (is_left_out (word_of token) reading.state.wanted) reading) reading.state
-    (λ way. found_on tokens (read_on token reading way)) (ways token reading.state) refl refl
-    (λ way. found-longest tokens (read_on token reading way))
+taken-longest (token ∷ tokens) reading readings =
+    behind-token token tokens reading readings (read_all token (reading ∷ readings)) refl (taken-longest tokens)
+
+-- ---- what is found where it reaches somewhere
+
+words_in : Front → ℕ
+words_in (Reaches reach) = reach.words
+words_in (TooDeep place) = 0
+
+whole_in : Front → Bool
+whole_in (Reaches reach) = reach.whole
+whole_in (TooDeep place) = false
+
+IsReaching : Front → Type 0
+IsReaching (Reaches reach) = Unit {0}
+IsReaching (TooDeep place) = ⊥
+
+pub not_deep : (deep : Option Place) (front : Front) (reach : Reach) → unless_deep deep front ≡ Reaches reach → front ≡ Reaches reach
+unfolding IsReaching
+not_deep (Some place) front reach is = absurd (subst IsReaching (sym is) tt)
+not_deep None front reach is = is
+
+record Found (count : ℕ) (tokens : List Token) (readings : List Reading) (reach : Reach) : Type 0 where
+  pub words : reach.words ≡ count + taken tokens readings
+  pub whole : reach.whole ≡ lead (λ state. is_whole state.wanted) (take (taken tokens readings) tokens) readings
+
+found-stopped : (count : ℕ) (endings : List Ending) (reach : Reach) → stopped count endings ≡ Reaches reach
+    → (reach.words ≡ count) × (reach.whole ≡ one_is_whole endings)
+unfolding words_in whole_in
+found-stopped count endings reach is =
+    let found = not_deep (deep_in_all (map (λ (end : Ending). end.deep) (best endings))) _ reach is in
+    (sym (ap words_in found), sym (ap whole_in found))
+
+abbrev ends : State → Bool
+ends state = is_whole state.wanted
+
+found-behind : (count : ℕ) (token : Token) (tokens : List Token) (readings all : List Reading) (reach : Reach) → read_all token readings ≡ all
+    → ((first : Reading) (others : List Reading) → front_from (count + 1) tokens (first ∷ others) ≡ Reaches reach → Found (count + 1) tokens (first ∷ others) reach)
+    → on_some all (front_from (count + 1) tokens) (stopped count (map (ending_at (word_of token)) readings)) ≡ Reaches reach
+    → (reach.words ≡ count + counted all (taken tokens)) × (reach.whole ≡ lead ends (take (counted all (taken tokens)) (token ∷ tokens)) readings)
+found-behind count token tokens readings [] reach is each e =
+    let s = found-stopped count (map (ending_at (word_of token)) readings) reach e in
+    (let words = s.0 in omega arith, s.1 ∙ any_map (λ (end : Ending). end.whole) (ending_at (word_of token)) readings)
+found-behind count token tokens readings (first ∷ others) reach is each e =
+    let f = each first others e in
+    let words = f.words in
+    let front : List Token = take (taken tokens (first ∷ others)) tokens in
+    (omega arith, f.whole ∙ ap (lead ends front) (sym is) ∙ sym (lead-on ends token front readings))
+
+found-from : (tokens : List Token) (count : ℕ) (readings : List Reading) (reach : Reach) → front_from count tokens readings ≡ Reaches reach
+    → Found count tokens readings reach
+found-from [] count readings reach is =
+    let s = found-stopped count (map (ending false) readings) reach (not_deep (deep_now readings) (stopped count (map (ending false) readings)) reach is) in
+    record { words = (let words = s.0 in omega arith); whole = s.1 ∙ any_map (λ (end : Ending). end.whole) (ending false) readings }
+found-from (token ∷ tokens) count readings reach is =
+    let all = read_all token readings in
+    let none : Front = stopped count (map (ending_at (word_of token)) readings) in
+    let s = found-behind count token tokens readings all reach refl (λ first others. found-from tokens (count + 1) (first ∷ others) reach)
+    (not_deep (deep_now readings) (on_some all (front_from (count + 1) tokens) none) reach is) in
+    record { words = s.0; whole = s.1 }
 
 -- ---- the law
 
 front_of_tokens : (front rest : List Token) → take (length front) (front ++ rest) ≡ front
 front_of_tokens front rest = take-append-le (length front) front rest (omega arith) ∙ take_all (length front) front (omega arith)
 
-pub taken_is_longest : (kind : Kind) (tokens : List Token) → IsLongestViable kind tokens (take (found kind tokens).tokens tokens)
+or-false : (b : Bool) → (b || false) ≡ b
+or-false true = refl
+or-false false = refl
+
+-- from the beginning there is one reading
+at_start : (test : State → Bool) (kind : Kind) (tokens front : List Token) → lead test front (first_reading kind (place_of tokens) ∷ []) ≡ leads test front (start kind)
+at_start test kind tokens front = or-false (leads test front (start kind))
+
+abbrev pub all_taken : Kind → List Token → ℕ
+all_taken kind tokens = taken tokens (first_reading kind (place_of tokens) ∷ [])
+
+pub taken_is_longest : (kind : Kind) (tokens : List Token) → IsLongestViable kind tokens (take (all_taken kind tokens) tokens)
 taken_is_longest kind tokens =
-    let l = found-longest tokens (record { state = start kind; nodes = []; deep = None; last = place_of tokens }) in
-    let is : take (found kind tokens).tokens tokens ≡ l.front =
+    let reading = first_reading kind (place_of tokens) in
+    let l = taken-longest tokens reading [] in
+    let is : take (all_taken kind tokens) tokens ≡ l.front =
     ap (λ n. take n tokens) (sym l.long) ∙ ap (take (length l.front)) l.begins ∙ front_of_tokens l.front l.rest in
-    let long : length (take (found kind tokens).tokens tokens) ≡ (found kind tokens).tokens = ap length is ∙ l.long in
+    let long : length (take (all_taken kind tokens) tokens) ≡ all_taken kind tokens = ap length is ∙ l.long in
     record {
       rest = l.rest;
       begins = l.begins ∙ ap (λ front. front ++ l.rest) (sym is);
-      viable = ap (λ front. can_take front (start kind)) is ∙ l.viable;
-      longest = λ longer others same e. subst (λ n. length longer ≤ n) (sym long) (l.longest longer others same e);
+      viable = ap (λ front. can_take front (start kind)) is ∙ sym (at_start (λ state. true) kind tokens l.front) ∙ l.viable;
+      longest = λ longer others same e. subst (λ n. length longer ≤ n) (sym long)
+          (l.longest longer others same (at_start (λ state. true) kind tokens longer ∙ e));
     }
+
+pub has_longest : (kind : Kind) (tokens : List Token) → HasLongest kind tokens
+has_longest kind tokens = record { front = take (all_taken kind tokens) tokens; is = taken_is_longest kind tokens }
+
+pub reached_longest : (kind : Kind) (tokens : List Token) (reach : Reach) → front_of kind tokens ≡ Reaches reach
+    → IsLongestViable kind tokens (take reach.words tokens)
+reached_longest kind tokens reach is =
+    let f = found-from tokens 0 (first_reading kind (place_of tokens) ∷ []) reach is in
+    let words : reach.words ≡ all_taken kind tokens = (let e = f.words in omega arith) in
+    subst (λ n. IsLongestViable kind tokens (take n tokens)) (sym words) (taken_is_longest kind tokens)
+
+pub reached_whole : (kind : Kind) (tokens : List Token) (reach : Reach) → front_of kind tokens ≡ Reaches reach
+    → reach.whole ≡ can_end kind (take reach.words tokens)
+reached_whole kind tokens reach is =
+    let f = found-from tokens 0 (first_reading kind (place_of tokens) ∷ []) reach is in
+    let words : reach.words ≡ all_taken kind tokens = (let e = f.words in omega arith) in
+    f.whole ∙ at_start (λ state. is_whole state.wanted) kind tokens (take (all_taken kind tokens) tokens)
+    ∙ ap (λ n. can_end kind (take n tokens)) (sym words)
 
 pub one_longest : (kind : Kind) (tokens a b : List Token) → IsLongestViable kind tokens a → IsLongestViable kind tokens b → a ≡ b
 one_longest kind tokens a b longest_a longest_b =

@@ -13,7 +13,7 @@ use Rattle.stmt_fronts.specs.Statements.{expression, pattern, declared_type, ide
 
 -- ---- the head of a definition: `[ static ] [ private | protected | public ] [ static ]` with at most one `static`, and its name
 
-abbrev head : Word → List Expected → List Turn
+abbrev pub head : Word → List Expected → List Turn
 head word.Identifier parts = own parts
 head word.Static parts = own (LevelOrName ∷ parts)
 head word.Private parts = own (StaticOrName ∷ parts)

@@ -45,7 +45,7 @@ colon = Within want.Colon
 -- ---- calls
 
 -- what may begin a call: what begins an operand, but no operator, no form that reaches to the right, no `cases` and no `[`
-abbrev begins_call : Word → Bool
+abbrev pub begins_call : Word → Bool
 begins_call (word.Operator sign) = false
 begins_call word.OpenSquare = false
 begins_call word.Let = false

@@ -135,7 +135,7 @@ abbrev begins : Option InnerTurn → Bool
 begins (Some turn) = true
 begins None = false
 
-abbrev begins_type : Word → Bool
+abbrev pub begins_type : Word → Bool
 begins_type word.Identifier = false
 begins_type w = begins (single_type w)
 

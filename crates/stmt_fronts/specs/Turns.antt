@@ -55,7 +55,7 @@ call_of (Some (inner_begins pull parts _)) = calls pull (all_within parts) [] �
 call_of _ = []
 
 -- what begins, and behind it what is wanted besides
-abbrev followed : List Expected → Turn → Turn
+abbrev pub followed : List Expected → Turn → Turn
 followed more (goes_on parts) = goes_on (parts ++ more)
 followed more (begins pull parts behind) = begins pull parts (behind ++ more)
 followed more (joins left right parts behind) = joins left right parts (behind ++ more)

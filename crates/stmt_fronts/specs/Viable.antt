@@ -1,6 +1,8 @@
 -- Which tokens may be the beginning of a statement or a specification.
-use Rattle.std.specs.Prelude.{◌≡◌, Bool, true, false, ◌||◌, if◌then◌else◌, nat_eq, List, [], ◌∷◌, ◌++◌, map, Option, Some, None}
+use Rattle.std.specs.Prelude.{◌≡◌, Bool, true, false, if◌then◌else◌, nat_eq, List, [], ◌∷◌, ◌++◌, map, Option, Some, None}
+use Rattle.std.specs.List.{list_any}
 use Rattle.vdm_kinds.specs.declared.name.Name.{Name}
+use Rattle.grammar_words.specs.declared.word.Word.{Word}
 use Rattle.grammar_words.specs.Tokens.{Token, identifier, word_of}
 use Rattle.stmt_fronts.specs.declared.expected.Expected.{Expected}
 use Rattle.stmt_fronts.specs.declared.expected.Expected.TheVariants.{Statement, LevelOrName, StaticOrName, DefinedName, DefinedNameAgain, TypeDefs, ValueDefs, VariableItems, FunctionDefs, OperationDefs, Classes, ClassName, ClassNameAgain}
@@ -24,7 +26,7 @@ name_of (identifier name place) = Some name
 name_of _ = None
 
 -- the names behind a token where this was wanted
-abbrev named_by : Names → Expected → Option Name → Names
+abbrev pub named_by : Names → Expected → Option Name → Names
 named_by names expected None = names
 named_by names ClassName name = record names { class = name }
 named_by names LevelOrName name = record names { definition = name }
@@ -37,12 +39,12 @@ named_by names FunctionDefs name = record names { definition = name }
 named_by names OperationDefs name = record names { definition = name }
 named_by names _ name = names
 
-abbrev is_same : Option Name → Option Name → Bool
+abbrev pub is_same : Option Name → Option Name → Bool
 is_same (Some a) (Some b) = nat_eq a.0 b.0
 is_same _ _ = false
 
 -- a second name is the first
-abbrev fits : Names → Expected → Option Name → Bool
+abbrev pub fits : Names → Expected → Option Name → Bool
 fits names ClassNameAgain name = is_same names.class name
 fits names DefinedNameAgain name = is_same names.definition name
 fits names _ name = true
@@ -63,24 +65,23 @@ pub record Way : Type 0 where
 abbrev pub way_on : Way → State
 way_on way = record { wanted = wanted_by way.turn ++ way.behind; names = way.names }
 
-abbrev ways_of : Names → Expected → Option Name → List Expected → List Turn → List Way
+abbrev pub ways_of : Names → Expected → Option Name → List Expected → List Turn → List Way
 ways_of names expected name behind turns =
     if fits names expected name
     then map (λ (turn : Turn). record { turn = turn; behind = behind; names = named_by names expected name }) turns else []
 
 -- the first thing wanted takes it, or the next where that does not and may be left out
-abbrev either : List Turn → (List Turn → List Way) → List Way → List Way
+abbrev pub either : List Turn → (List Turn → List Way) → List Way → List Way
 either [] taken other = other
 either (turn ∷ turns) taken other = taken (turn ∷ turns)
 
-abbrev ways_from : Names → Token → List Expected → List Way
-ways_from names token [] = []
-ways_from names token (next ∷ behind) =
-    either (turns next (word_of token)) (ways_of names next (name_of token) behind)
-    (if is_optional next then ways_from names token behind else [])
+abbrev pub ways_from : Names → Word → Option Name → List Expected → List Way
+ways_from names word name [] = []
+ways_from names word name (next ∷ behind) =
+    either (turns next word) (ways_of names next name behind) (if is_optional next then ways_from names word name behind else [])
 
 abbrev pub ways : Token → State → List Way
-ways token state = ways_from state.names token state.wanted
+ways token state = ways_from state.names (word_of token) (name_of token) state.wanted
 
 -- ---- tokens that are taken one by one
 
@@ -88,14 +89,13 @@ abbrev pub start : Kind → State
 start kind.Stmt = record { wanted = Statement ∷ []; names = no_names }
 start kind.Spec = record { wanted = Classes ∷ []; names = no_names }
 
-abbrev pub in_one : {A : Type 0} → (A → Bool) → List A → Bool
-in_one test [] = false
-in_one test (a ∷ others) = test a || in_one test others
+-- each token is taken, in one way or another, and what is wanted then passes a test
+abbrev pub leads : (State → Bool) → List Token → State → Bool
+leads test [] state = test state
+leads test (token ∷ tokens) state = list_any (λ (way : Way). leads test tokens (way_on way)) (ways token state)
 
--- each token is taken, in one way or another
 abbrev pub can_take : List Token → State → Bool
-can_take [] state = true
-can_take (token ∷ tokens) state = in_one (λ (way : Way). can_take tokens (way_on way)) (ways token state)
+can_take = leads (λ (state : State). true)
 
 abbrev pub IsViable : Kind → List Token → Type 0
 IsViable k tokens = can_take tokens (start k) ≡ true

@@ -1,12 +1,14 @@
 //! How far words can be the beginning of a statement or a specification.
 #![tactic(auto)]
 
+mod ending;
 mod expected;
 mod kind;
 mod laws;
 mod open_node;
 mod worked;
 
+pub use ending::Ending;
 pub use expected::Expected;
 pub use kind::Kind;
 pub use laws::one_longest_front;

@@ -31,6 +31,7 @@ use Rattle.stmt_trees.specs.Pieces.{whole, Spelled}
 use Rattle.stmt_reading.specs.Leaves.{expr_in, pattern_in, type_in}
 use Rattle.stmt_laws.proofs.Stops.{Ends, at_end, at_word, whole-stops, leaf_is}
 use Rattle.stmt_laws.proofs.Keeping.{zero-is, not_taken, NoneTaken, whole_of}
+use Rattle.stmt_laws.proofs.Guards.{taken-guarded, be-ends}
 use Rattle.stmt_laws.specs.Ends.{ends_expr, ends_pattern, ends_type, first_word}
 use Rattle.stmt_laws.proofs.Readers.{Reads}
 
@@ -102,6 +103,8 @@ expr_ends e b tokens a end word_is.Comma h =
     expr_passed want.Comma refl word_is.Comma e b tokens a (follow (word word_is.Comma) refl refl refl nothing) end
 expr_ends e b tokens a end word_is.Colon h =
     expr_passed want.Colon refl word_is.Colon e b tokens a (follow (word word_is.Colon) refl refl refl nothing) end
+expr_ends e b tokens a end word_is.Be h =
+    be-ends end.behind (taken-guarded (map word_of tokens) (start kind.Expr) end.behind refl end.reached) end.whole
 expr_ends e b tokens a end w h = whole-stops end.behind w end.whole h
 
 -- no word of the rest goes on

@@ -40,16 +40,6 @@ onto_reads p q a b ws vs middle ends first begins second =
           ap (λ o. onto o q) (first.reads tokens k.0 k.1 (begins.opens k.0 rest k.2 e)) ∙ second.reads k.0 rest k.2 e;
     }
 
-pub choice_reads : {A B : Type 0} (p : List Token → Read A) (q : A → List Token → Read B) (other : List Token → Read B) (a : A) (b : B)
-    (ws vs : List Piece) (middle ends : Word → Bool) → Reads p ws a middle → Begins vs ends middle → Reads (q a) vs b ends
-    → Reads (λ (ts : List Token). choice (p ts) q (other ts)) (ws ++ vs) b ends
-choice_reads p q other a b ws vs middle ends first begins second =
-    record {
-      reads = λ tokens rest h e.
-          let k = Spelled-split tokens ws vs rest h in
-          ap (λ o. choice o q (other tokens)) (first.reads tokens k.0 k.1 (begins.opens k.0 rest k.2 e)) ∙ second.reads k.0 rest k.2 e;
-    }
-
 pub done : {A : Type 0} (a : A) (ends : Word → Bool) → Reads (λ (ts : List Token). Some (a, ts)) [] a ends
 done a ends = record { reads = λ tokens rest h e. ap (λ (ts : List Token). Some (a, ts)) h }
 
@@ -72,10 +62,10 @@ by_nothing {begins = begins} more =
 
 -- ---- words
 
-word-is : (w : Word) (place : Place) (rest : List Token) → is_word w w ≡ true → word_in w (plain w place ∷ rest) ≡ Some (place, rest)
+pub word-is : (w : Word) (place : Place) (rest : List Token) → is_word w w ≡ true → word_in w (plain w place ∷ rest) ≡ Some (place, rest)
 word-is w place rest e = ap (λ (b : Bool). if b then Some (place, rest) else None) e
 
-word-is_not : (w : Word) (tokens : List Token) → is_word w (first_word tokens) ≡ false → word_in w tokens ≡ None
+pub word-is_not : (w : Word) (tokens : List Token) → is_word w (first_word tokens) ≡ false → word_in w tokens ≡ None
 word-is_not w [] e = refl
 word-is_not w (plain found place ∷ tokens) e = ap (λ (b : Bool). if b then Some (place, tokens) else None) e
 word-is_not w (identifier n p ∷ tokens) e = refl

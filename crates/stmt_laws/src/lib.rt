@@ -3,4 +3,4 @@
 
 mod laws;
 
-pub use laws::leaves_are_read;
+pub use laws::{leaves_are_read, one_statement, statements_are_read, what_is_read_is_a_statement};

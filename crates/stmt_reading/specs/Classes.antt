@@ -14,7 +14,7 @@ abbrev pub items_of : {A : Type 0} → Read (List A) → (List A → BlockTree) 
 items_of {A = A} items made = onto items (λ (found : List A) (rest : List Token). Some (made found, rest))
 
 -- a `;` may stand behind a thread
-abbrev thread_ends : ThreadTree → Place → List Token → Read BlockTree
+abbrev pub thread_ends : ThreadTree → Place → List Token → Read BlockTree
 thread_ends t place tokens =
     choice (word_in word_is.Semicolon tokens) (λ (spot : Place) (rest : List Token). Some (thread_of t place, rest))
     (Some (thread_of t place, tokens))
@@ -37,7 +37,7 @@ block_begun class (plain word_is.Sync place) tokens =
     items_of (items_in begins_sync sync_in (turns_for tokens) tokens) (λ (found : List SyncTree). synchronisation found place)
 block_begun class _ tokens = None
 
-abbrev block_in : Name → List Token → Read BlockTree
+abbrev pub block_in : Name → List Token → Read BlockTree
 block_in class [] = None
 block_in class (token ∷ tokens) = block_begun class token tokens
 
@@ -79,7 +79,7 @@ classes_in (suc turns) tokens =
     (λ (place : Place) (a : List Token). onto (class_in place a) (λ (class : ClassTree) (b : List Token). onto (classes_in turns b) (put class)))
     (Some ([], tokens))
 
-abbrev spec_with : Option (List ClassTree) → Option SpecTree
+abbrev pub spec_with : Option (List ClassTree) → Option SpecTree
 spec_with None = None
 spec_with (Some classes) = Some (record { classes = classes })
 

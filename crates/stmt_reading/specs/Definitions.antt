@@ -39,7 +39,7 @@ pub record Head : Type 0 where
   pub name_place : Place
   pub place : Place
 
-abbrev named_head : Bool → Level → Place → List Token → Read Head
+abbrev pub named_head : Bool → Level → Place → List Token → Read Head
 named_head is_static level place tokens =
     onto (name_in tokens) (λ (name : NameAt) (rest : List Token).
     Some (
@@ -52,27 +52,27 @@ named_head is_static level place tokens =
       rest,
     ))
 
-abbrev level_of : Word → Option Level
+abbrev pub level_of : Word → Option Level
 level_of word_is.Private = Some Private
 level_of word_is.Protected = Some Protected
 level_of word_is.Public = Some Public
 level_of _ = None
 
-abbrev behind_level : Option Level → Place → List Token → Read Head
+abbrev pub behind_level : Option Level → Place → List Token → Read Head
 behind_level None place tokens = None
 behind_level (Some level) place tokens =
     choice (word_in word_is.Static tokens) (λ (spot : Place) (rest : List Token). named_head true level place rest)
     (named_head false level place tokens)
 
-abbrev level_at : Option Level → Place → List Token → List Token → Read Head
+abbrev pub level_at : Option Level → Place → List Token → List Token → Read Head
 level_at None place tokens behind = named_head true Private place tokens
 level_at (Some level) place tokens behind = named_head true level place behind
 
-abbrev behind_static : Place → List Token → Read Head
+abbrev pub behind_static : Place → List Token → Read Head
 behind_static place [] = None
 behind_static place (token ∷ tokens) = level_at (level_of (word_of token)) place (token ∷ tokens) tokens
 
-abbrev head_begun : Token → List Token → Read Head
+abbrev pub head_begun : Token → List Token → Read Head
 head_begun (identifier name place) tokens = named_head false Private place (identifier name place ∷ tokens)
 head_begun (plain word_is.Static place) tokens = behind_static place tokens
 head_begun (plain w place) tokens = behind_level (level_of w) place tokens
@@ -182,10 +182,10 @@ begins_variable w = begins_head w
 
 -- ---- functions and operations
 
-abbrev brackets_in : List Token → Read Place
+abbrev pub brackets_in : List Token → Read Place
 brackets_in tokens = onto (word_in word_is.OpenRound tokens) (λ (place : Place) (a : List Token). word_in word_is.CloseRound a)
 
-abbrev types_of : TypeTrees → List TypeTree
+abbrev pub types_of : TypeTrees → List TypeTree
 types_of no_types = []
 types_of (one_type t ts) = t ∷ types_of ts
 
@@ -214,7 +214,7 @@ patterns_of name tokens =
     onto (word_in word_is.CloseRound c) (λ (close : Place) (d : List Token).
     onto (word_in word_is.DoubleEqual d) (λ (spot : Place) (e : List Token). Some (ps, e)))))))
 
-abbrev open_in : {A : Type 0} → List Token → Read (Body A)
+abbrev pub open_in : {A : Type 0} → List Token → Read (Body A)
 open_in {A = A} tokens =
     choice (word_in (word_is.Operator Not) tokens)
     (λ (place : Place) (a : List Token). onto (word_in word_is.Yet a) (λ (yet : Place) (b : List Token).
@@ -227,7 +227,7 @@ body_of {A = A} one tokens =
     choice (word_in word_is.Is tokens) (λ (place : Place) (a : List Token). open_in {A = A} a)
     (onto (one tokens) (λ (found : A) (a : List Token). Some (written found, a)))
 
-abbrev arrow_in : List Token → Read Place
+abbrev pub arrow_in : List Token → Read Place
 arrow_in tokens =
     choice (word_in word_is.Arrow tokens) (λ (place : Place) (a : List Token). Some (place, a)) (word_in word_is.TotalArrow tokens)
 
@@ -292,7 +292,7 @@ operation_in tokens =
 
 -- ---- threads and synchronisation
 
-abbrev phase_in : List Token → Read (Option PhaseTree)
+abbrev pub phase_in : List Token → Read (Option PhaseTree)
 phase_in tokens =
     choice (word_in word_is.Comma tokens)
     (λ (first : Place) (a : List Token). onto (expr_in a) (λ (jitter : ExprTree) (b : List Token).
@@ -319,13 +319,13 @@ thread_in tokens =
     choice (word_in word_is.Periodic tokens) periodic_in
     (onto (statement_in tokens) (λ (s : StmtTree) (a : List Token). Some (procedural s, a)))
 
-abbrev permission_in : Place → List Token → Read SyncTree
+abbrev pub permission_in : Place → List Token → Read SyncTree
 permission_in place tokens =
     onto (name_in tokens) (λ (name : NameAt) (a : List Token).
     onto (word_in (word_is.Operator Implies) a) (λ (arrow : Place) (b : List Token).
     onto (expr_in b) (λ (e : ExprTree) (c : List Token). Some (permission name.name name.place e place, c))))
 
-abbrev mutex_in : Place → List Token → Read SyncTree
+abbrev pub mutex_in : Place → List Token → Read SyncTree
 mutex_in place tokens =
     onto (word_in word_is.OpenRound tokens) (λ (open_place : Place) (a : List Token).
     choice (word_in word_is.All a)

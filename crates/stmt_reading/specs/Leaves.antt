@@ -56,7 +56,7 @@ type_in tokens = leaf kind.TypeExpr type_of tokens
 -- ---- single words
 
 -- numbers of the words that statements and classes are told by; all others have 0
-abbrev sign_number : Sign → ℕ
+abbrev pub sign_number : Sign → ℕ
 sign_number Equal = 1
 sign_number InSet = 2
 sign_number Times = 3
@@ -127,7 +127,7 @@ word_number _ = 0
 abbrev pub is_word : Word → Word → Bool
 is_word a b = nat_lt 0 (word_number a) && nat_eq (word_number a) (word_number b)
 
-abbrev word_at : Word → Token → List Token → Read Place
+abbrev pub word_at : Word → Token → List Token → Read Place
 word_at w (plain found place) tokens = if is_word w found then Some (place, tokens) else None
 word_at w _ tokens = None
 
@@ -136,7 +136,7 @@ abbrev pub word_in : Word → List Token → Read Place
 word_in w [] = None
 word_in w (token ∷ tokens) = word_at w token tokens
 
-abbrev name_at : Token → List Token → Read NameAt
+abbrev pub name_at : Token → List Token → Read NameAt
 name_at (identifier name place) tokens = Some (record { name = name; place = place }, tokens)
 name_at _ tokens = None
 
@@ -145,7 +145,7 @@ name_in [] = None
 name_in (token ∷ tokens) = name_at token tokens
 
 -- a name that was read before, again
-abbrev same_name : Name → NameAt → List Token → Read NameAt
+abbrev pub same_name : Name → NameAt → List Token → Read NameAt
 same_name name found tokens = if nat_eq name.0 found.name.0 then Some (found, tokens) else None
 
 abbrev pub name_again : Name → List Token → Read NameAt

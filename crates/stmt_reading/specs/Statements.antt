@@ -30,7 +30,7 @@ such_that_in tokens =
     (Some (None, tokens))
 
 -- an expression, where the next word begins one
-abbrev begun : Option Turn → List Token → Read (Option ExprTree)
+abbrev pub begun : Option Turn → List Token → Read (Option ExprTree)
 begun None tokens = Some (None, tokens)
 begun (Some turn) tokens = onto (expr_in tokens) (λ (e : ExprTree) (rest : List Token). Some (Some e, rest))
 
@@ -48,7 +48,7 @@ patterns_in tokens = onto (list_in word_is.Comma pattern_in tokens) (λ (ps : Li
 -- ---- assignments
 
 -- the steps of postfixes of the kinds that a target has, innermost first, behind those that follow them
-abbrev applied_target : (List TargetStepTree → Option TargetTree) → ExprTrees → Place → List TargetStepTree → Option TargetTree
+abbrev pub applied_target : (List TargetStepTree → Option TargetTree) → ExprTrees → Place → List TargetStepTree → Option TargetTree
 applied_target target (one_expr index no_exprs) place steps = target (element_at index place ∷ steps)
 applied_target target _ place steps = None
 
@@ -72,11 +72,11 @@ assignment_in tokens =
 
 -- ---- calls
 
-abbrev is_application : ExprTree → Bool
+abbrev pub is_application : ExprTree → Bool
 is_application (apply head arguments place) = true
 is_application _ = false
 
-abbrev is_head : ExprTree → Bool
+abbrev pub is_head : ExprTree → Bool
 is_head (sequence_enumeration items place) = false
 is_head (sequence_comprehension item pattern set condition place) = false
 is_head (cases_of subject cases others place) = false
@@ -176,7 +176,7 @@ let_bind one place p tokens =
     onto (one e) (λ (s : StmtTree) (f : List Token).
     Some (let_be_then (bind_in (patterns_tree (p ∷ others)) set) condition s place, f)))))))
 
-abbrev is_there : {A : Type 0} → Read A → Bool
+abbrev pub is_there : {A : Type 0} → Read A → Bool
 is_there None = false
 is_there (Some found) = true
 
@@ -278,7 +278,7 @@ set_in one place tokens =
     onto (expr_in b) (λ (e : ExprTree) (c : List Token). body_in one (λ (s : StmtTree). for_set p e s place) c)))
 
 -- a name before `=`
-abbrev counted_in : List Token → Read NameAt
+abbrev pub counted_in : List Token → Read NameAt
 counted_in tokens =
     onto (name_in tokens) (λ (name : NameAt) (a : List Token).
     onto (word_in (word_is.Operator Equal) a) (λ (equal : Place) (b : List Token). Some (name, b)))
@@ -335,7 +335,7 @@ bracketed_in {A = A} one made tokens =
 -- ---- statements
 
 -- what stands behind the bracket that closes what is open, and so many more
-abbrev at_bracket : Word → ℕ → (ℕ → List Token) → List Token → List Token
+abbrev pub at_bracket : Word → ℕ → (ℕ → List Token) → List Token → List Token
 at_bracket word_is.OpenRound inside next tokens = next (suc inside)
 at_bracket word_is.CloseRound zero next tokens = tokens
 at_bracket word_is.CloseRound (suc fewer) next tokens = next fewer
@@ -378,7 +378,7 @@ stmt_begun one (plain word_is.Skip place) tokens = Some (skips place, tokens)
 stmt_begun one (plain word_is.Error place) tokens = Some (errs place, tokens)
 stmt_begun one token tokens = simple_in (token ∷ tokens)
 
-abbrev begun_by : (List Token → Read StmtTree) → List Token → Read StmtTree
+abbrev pub begun_by : (List Token → Read StmtTree) → List Token → Read StmtTree
 begun_by one [] = None
 begun_by one (token ∷ tokens) = stmt_begun one token tokens
 

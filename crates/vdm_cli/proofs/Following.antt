@@ -1,26 +1,26 @@
 -- What follows from the clauses of the top call.
 use Rattle.std.specs.Prelude.{◌≡◌, ◌≢◌, ℕ, ◌⊎◌, Bool, List, [], Option, Some, None, IsSome}
-use Rattle.std.proofs.Common.{refl, sym, subst, inl, inr}
+use Rattle.std.proofs.Common.{refl, sym, ap, subst, inl, inr}
 use Rattle.abstract_syntax.specs.Classes.{SpecTree}
 use Rattle.abstract_syntax.specs.Expressions.{ExprTree}
 use Rattle.run_journal.specs.declared.entry.Entry.{Entry}
 use Rattle.vdm_kinds.specs.declared.spec_fault.SpecFault.{SpecFault}
-use Rattle.vdm_grammar.specs.Texts.{IsAccepted, IsFirstRefusal}
-use Rattle.vdm_grammar.proofs.Refusals.{one_accepted, not_both}
+use Rattle.text_phases.specs.Phases.{IsAccepted, first_refusal}
 use Rattle.vdm_meaning.specs.Main.{step_limit}
 use Rattle.vdm_legal.specs.Order.{IsInOrder}
-use Rattle.vdm_legal.specs.Finishes.{finish_of}
+use Rattle.vdm_legal.specs.Finishes.{Finish, finish_of}
 use Rattle.vdm_meaning.specs.Runs.{IsRun}
-use Rattle.report_texts.specs.Words.{IsNoCommand}
+use Rattle.report_texts.specs.Words.{Command, check, run, IsCommand, IsNoCommand}
+use Rattle.report_texts.proofs.Commands.{one_command}
 use Rattle.vdm_report.specs.declared.end.End.{End}
-use Rattle.vdm_report.specs.declared.end.End.TheVariants.{Ended, Refused, Usage, Failed, ReadFault, WriteFault, OutOfMemory}
-use Rattle.vdm_report.specs.declared.end.End.TheVariants.{Checked, Made, Deadlock, TicksOver, TickFault, JournalFull}
+use Rattle.vdm_report.specs.declared.end.End.TheVariants.{Ended, Checked, Refused, Usage, Failed, ReadFault}
 use Rattle.vdm_report.specs.Ends.{finish_in}
 use Rattle.vdm_report.specs.Outside.{Outside}
 use Rattle.vdm_cli.specs.Meant.{read_of, Means}
-use Rattle.vdm_cli.specs.Headline.{Call, StandsFor, KeepsWords, RunsText, RefusesTexts, RunsOf, KeepsJournal, IsReported, KeepsOutput}
+use Rattle.vdm_cli.specs.Headline.{Call, StandsFor, KeepsWords, RunsText, ChecksSpec, Refuses, RunsOf, KeepsJournal, IsReported, KeepsOutput}
 use Rattle.vdm_cli.specs.Following.{IsMeant}
-use Rattle.vdm_cli.proofs.Keeping.{wrote_stands, finished_is, same_text}
+use Rattle.vdm_cli.proofs.Refusals.{not_both, one_accepted, counts_by}
+use Rattle.vdm_cli.proofs.Keeping.{wrote_stands, finished_is}
 
 -- what is reported, behind some bytes
 reported-by : (call : Call) → KeepsOutput call → (before : Option (List ℕ)) → call.source.before ≡ before → (spec : List ℕ) × IsReported call spec
@@ -52,17 +52,7 @@ means_end call spec r end s e itself =
 finish_meant : (words : List (List ℕ)) (log : Bool) (source : Outside) (spec : List ℕ) (names : List (List ℕ)) (journal : List Entry) (meant : End) → IsSome (finish_in meant) → Means words log source spec names journal meant → finish_of journal ≡ finish_in meant
 finish_meant words log source spec names journal (Ended slot) f m = m.2.2.1
 finish_meant words log source spec names journal (Failed fault exit thread place) f m = m.2.2.1
-finish_meant words log source spec names journal (Refused fault) f m = cc f
-finish_meant words log source spec names journal Usage f m = cc f
-finish_meant words log source spec names journal ReadFault f m = cc f
-finish_meant words log source spec names journal WriteFault f m = cc f
-finish_meant words log source spec names journal OutOfMemory f m = cc f
-finish_meant words log source spec names journal (Checked classes) f m = cc f
-finish_meant words log source spec names journal (Made classes made_entries made_result) f m = cc f
-finish_meant words log source spec names journal (Deadlock blocked) f m = cc f
-finish_meant words log source spec names journal (TicksOver ticks) f m = cc f
-finish_meant words log source spec names journal TickFault f m = cc f
-finish_meant words log source spec names journal (JournalFull full) f m = cc f
+finish_meant words log source spec names journal meant f m = cc f
 
 pub finish_of_journal : (call : Call) → KeepsOutput call → IsSome (finish_in call.report.end) → finish_of call.report.journal ≡ finish_in call.report.end
 finish_of_journal call k f =
@@ -77,6 +67,13 @@ entries-by call k None e = k.silent e
 entries-by call k (Some told) e = elim (k.told told e) [ inl none ↦ inl none | inr r ↦ inr (told, r.1) ]
 
 -- the words' text is one
+abbrev text_in : Command → List ℕ
+text_in check = []
+text_in (run text log) = text
+
+same_text : (words : List (List ℕ)) (a b : List ℕ) → RunsText words a → RunsText words b → a ≡ b
+same_text words a b p q = ap text_in (one_command words (run a p.0) (run b q.0) p.1 q.1)
+
 accepted_text : (call : Call) (told text : List ℕ) (r : RunsOf call told) → RunsText call.words text → IsAccepted told text r.names r.runs.tree r.runs.expression
 accepted_text call told text r p =
     subst (λ t. IsAccepted told t r.names r.runs.tree r.runs.expression) (same_text call.words r.text text r.command p) r.runs.accepted
@@ -88,8 +85,8 @@ journal_is_the_run call told text names tree expression k e p h =
       | inr r ↦
           let own = r.1.runs in
           let same = one_accepted told text r.1.names names own.tree tree own.expression expression (accepted_text call told text r.1 p) h in (
-            subst (λ x. IsRun tree x step_limit call.report.journal) same.2 (subst (λ t. IsRun t own.expression step_limit call.report.journal) same.1 own.run),
-            subst (λ t. IsInOrder t call.report.journal) same.1 own.order,
+            subst (λ x. IsRun tree x step_limit call.report.journal) same.1 (subst (λ t. IsRun t own.expression step_limit call.report.journal) same.0 own.run_of),
+            subst (λ t. IsInOrder t call.report.journal) same.0 own.order,
           )
     ]
 
@@ -97,10 +94,10 @@ pub empty_no_command : (call : Call) → KeepsJournal call → IsNoCommand call.
 empty_no_command call k faulty =
     elim (entries-by call k call.source.before refl) [
       | inl none ↦ none
-      | inr r ↦ absurd (faulty r.1.text r.1.command.0 r.1.command.1)
+      | inr r ↦ absurd (faulty (run r.1.text r.1.command.0) r.1.command.1)
     ]
 
-pub empty_no_trees : (call : Call) (told text : List ℕ) (fault : SpecFault) → KeepsJournal call → call.source.before ≡ Some told → RunsText call.words text → IsFirstRefusal told text fault → call.report.journal ≡ []
+pub empty_no_trees : (call : Call) (told text : List ℕ) (fault : SpecFault) → KeepsJournal call → call.source.before ≡ Some told → RunsText call.words text → first_refusal told text ≡ Some fault → call.report.journal ≡ []
 empty_no_trees call told text fault k e p f =
     elim (k.told told e) [
       | inl none ↦ none
@@ -123,8 +120,34 @@ empty_read_fault call k e =
     let r = reported call k in
     (means_end call r.0 r.1 ReadFault (meant_stands call r.0 r.1) e (λ s. s)).2.1
 
-pub silent_refusal : (call : Call) (fault : SpecFault) → KeepsOutput call → call.source.before ≡ None → call.report.end ≡ Refused fault → (spec : List ℕ) × RefusesTexts call.words spec fault
+pub empty_check : (call : Call) → KeepsJournal call → IsCommand call.words check → call.report.journal ≡ []
+empty_check call k c =
+    elim (entries-by call k call.source.before refl) [
+      | inl none ↦ none
+      | inr r ↦ absurd (let same = one_command call.words check (run r.1.text r.1.command.0) c r.1.command.1 in cc)
+    ]
+
+pub empty_checked : (call : Call) (classes : ℕ) → KeepsOutput call → call.report.end ≡ Checked classes → call.report.journal ≡ []
+empty_checked call classes k e =
+    let r = reported call k in
+    (means_end call r.0 r.1 (Checked classes) (meant_stands call r.0 r.1) e (λ s. s)).2.2.1
+
+pub silent_refusal : (call : Call) (fault : SpecFault) → KeepsOutput call → call.source.before ≡ None → call.report.end ≡ Refused fault → (spec : List ℕ) × Refuses call.words spec fault
 silent_refusal call fault k none e =
     let r = k.silent none in
     let n = means_end call r.0 r.1 (Refused fault) (meant_stands call r.0 r.1) e (λ s. s) in
-    (r.0, (n.0, (call.report.log, n.1), n.2.2.0))
+    (r.0, (n.0, n.1.words_are, n.2.2.0))
+
+pub silent_check : (call : Call) (classes : ℕ) → KeepsOutput call → call.source.before ≡ None → call.report.end ≡ Checked classes → (spec : List ℕ) × ChecksSpec call.words spec classes
+silent_check call classes k none e =
+    let r = k.silent none in
+    let n = means_end call r.0 r.1 (Checked classes) (meant_stands call r.0 r.1) e (λ s. s) in
+    (r.0, counts_by call.words n.0 r.0 classes n.1.words_are n.2.2.0)
+
+-- the journal of a run that ended is not empty
+empty_unfinished : (journal : List Entry) (finish : Option Finish) → journal ≡ [] → finish_of journal ≡ finish → IsSome finish → ⊥
+empty_unfinished journal None none e f = absurd (cc)
+empty_unfinished journal (Some finish) none e f = absurd (cc)
+
+pub check_unfinished : (call : Call) → KeepsJournal call → KeepsOutput call → IsCommand call.words check → IsSome (finish_in call.report.end) → ⊥
+check_unfinished call j k c f = empty_unfinished call.report.journal (finish_in call.report.end) (empty_check call j c) (finish_of_journal call k f) f

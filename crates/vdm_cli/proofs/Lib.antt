@@ -1,3 +1,5 @@
+pub mod AcceptedSpecs
+pub mod Refusals
 pub mod RunTexts
 pub mod Keeping
 pub mod Following

@@ -1,18 +1,17 @@
--- A whole call: of a command that runs a text, and of faulty words.
+-- A whole call: of a command, and of faulty words.
 use Rattle.std.specs.Prelude.{◌≡◌, ℕ, ◌+◌, ◌≤◌, Bool, false, List, [], ◌++◌, Option, Some, None}
 use Rattle.std.specs.Io.KnownBytes.{Consumes}
 use Rattle.std.proofs.Common.{refl, sym, subst, arith, inl}
 use Rattle.run_journal.specs.declared.entry.Entry.{Entry}
-use Rattle.vdm_grammar.specs.Texts.{spec_limit}
+use Rattle.text_phases.specs.Phases.{spec_limit}
 use Rattle.vdm_outside.specs.Reading.{TakesAtMost}
-use Rattle.report_texts.specs.Words.{IsRunCommand, IsNoCommand}
+use Rattle.report_texts.specs.Words.{Command, IsCommand, IsNoCommand, asks_log}
 use Rattle.vdm_report.specs.declared.end.End.{End}
-use Rattle.vdm_report.specs.declared.end.End.TheVariants.{Ended, Refused, Usage, Failed, ReadFault, WriteFault, OutOfMemory}
-use Rattle.vdm_report.specs.declared.end.End.TheVariants.{Checked, Made, Deadlock, TicksOver, TickFault, JournalFull}
+use Rattle.vdm_report.specs.declared.end.End.TheVariants.{Usage, OutOfMemory}
 use Rattle.vdm_report.specs.declared.report.Report.{Report}
 use Rattle.vdm_report.specs.Outside.{Outside, IsCalm, IsUntouched}
 use Rattle.vdm_report.specs.Written.{Wrote}
-use Rattle.vdm_cli.specs.Meant.{ReadsSpec, MeansRun, Means, RunsCommand}
+use Rattle.vdm_cli.specs.Meant.{ReadsSpec, Asks, MeansCommand, Means, DoesCommand}
 use Rattle.vdm_cli.specs.Headline.{Call, KeepsStatus, KeepsReading, Keeps}
 use Rattle.vdm_cli.proofs.Keeping.{keeps}
 
@@ -42,8 +41,8 @@ reads_nothing left reads source = record {
 }
 
 -- a command for which memory was wanting from the beginning
-pub runs_without_memory : (text : List ℕ) (source sink : Outside) (report : Report) → IsCalm source → IsCalm sink → IsUntouched sink → report.end ≡ OutOfMemory → report.journal ≡ [] → RunsCommand text source sink report
-runs_without_memory text source sink report calm quiet untouched is none = record {
+pub does_without_memory : (command : Command) (source sink : Outside) (report : Report) → IsCalm source → IsCalm sink → IsUntouched sink → report.end ≡ OutOfMemory → report.journal ≡ [] → DoesCommand command source sink report
+does_without_memory command source sink report calm quiet untouched is none = record {
   spec = [];
   names = [];
   meant = OutOfMemory;
@@ -52,38 +51,27 @@ runs_without_memory text source sink report calm quiet untouched is none = recor
 }
 
 -- a command whose report was written
-pub runs_written : (text : List ℕ) (source sink : Outside) (report meant : Report) (names given : List (List ℕ)) → given ≡ names → report.journal ≡ meant.journal → report.log ≡ meant.log → ((spec : List ℕ) × MeansRun source spec text names meant.journal meant.end) → Wrote given meant.journal meant.log meant.end sink report.end → RunsCommand text source sink report
-runs_written text source sink report meant names given same journal log m w = record {
+pub does_written : (command : Command) (source sink : Outside) (report meant : Report) (names given : List (List ℕ)) → given ≡ names → report.journal ≡ meant.journal → report.log ≡ meant.log → ((spec : List ℕ) × MeansCommand source spec command names meant.journal meant.end) → Wrote given meant.journal meant.log meant.end sink report.end → DoesCommand command source sink report
+does_written command source sink report meant names given same journal log m w = record {
   spec = m.0;
   names = names;
   meant = meant.end;
-  means = subst (λ j. MeansRun source m.0 text names j meant.end) (sym journal) m.1;
+  means = subst (λ j. MeansCommand source m.0 command names j meant.end) (sym journal) m.1;
   wrote = subst (λ l. Wrote names report.journal l meant.end sink report.end) (sym log)
       (subst (λ j. Wrote names j meant.log meant.end sink report.end) (sym journal)
       (subst (λ n. Wrote n meant.journal meant.log meant.end sink report.end) same w));
 }
 
 -- what a command means is what the words mean
-means_command : (words : List (List ℕ)) (log : Bool) (source : Outside) (spec text : List ℕ) (names : List (List ℕ)) (journal : List Entry) (meant : End) → IsRunCommand words text log → MeansRun source spec text names journal meant → Means words log source spec names journal meant
-means_command words log source spec text names journal (Ended slot) c m = (text, c, m)
-means_command words log source spec text names journal (Refused fault) c m = (text, c, m)
-means_command words log source spec text names journal Usage c m = absurd m.2
-means_command words log source spec text names journal (Failed fault exit thread place) c m = (text, c, m)
-means_command words log source spec text names journal ReadFault c m = (text, c, m)
-means_command words log source spec text names journal WriteFault c m = (text, c, m)
-means_command words log source spec text names journal OutOfMemory c m = (text, c, m)
-means_command words log source spec text names journal (Checked classes) c m = (text, c, m)
-means_command words log source spec text names journal (Made classes made_entries made_result) c m = (text, c, m)
-means_command words log source spec text names journal (Deadlock blocked) c m = (text, c, m)
-means_command words log source spec text names journal (TicksOver ticks) c m = (text, c, m)
-means_command words log source spec text names journal TickFault c m = (text, c, m)
-means_command words log source spec text names journal (JournalFull full) c m = (text, c, m)
+means_words : (words : List (List ℕ)) (log : Bool) (source : Outside) (spec : List ℕ) (command : Command) (names : List (List ℕ)) (journal : List Entry) (meant : End) → Asks words log command → MeansCommand source spec command names journal meant → Means words log source spec names journal meant
+means_words words log source spec command names journal Usage c m = absurd m.2
+means_words words log source spec command names journal meant c m = (command, c, m)
 
-pub keeps_command : (call : Call) (text : List ℕ) (asks : Bool) → IsRunCommand call.words text asks → call.report.log ≡ asks → KeepsStatus call → KeepsReading call → RunsCommand text call.source call.sink call.report → Keeps call
-keeps_command call text asks command log status reading r =
+pub keeps_command : (call : Call) (command : Command) → IsCommand call.words command → call.report.log ≡ asks_log command → KeepsStatus call → KeepsReading call → DoesCommand command call.source call.sink call.report → Keeps call
+keeps_command call command c log status reading r =
     keeps call r.spec r.names r.meant
-    (means_command call.words call.report.log call.source r.spec text r.names call.report.journal r.meant (subst (IsRunCommand call.words text) (sym log) command) r.means)
-    r.wrote status reading (λ none. absurd (none text asks command))
+    (means_words call.words call.report.log call.source r.spec command r.names call.report.journal r.meant (record { words_are = c; log_is = log }) r.means)
+    r.wrote status reading (λ none. absurd (none command c))
 
 pub keeps_usage : (call : Call) (names : List (List ℕ)) (journal : List Entry) (log : Bool) (meant : End) → IsNoCommand call.words → call.report.log ≡ log → log ≡ false → call.report.journal ≡ journal → journal ≡ [] → meant ≡ Usage → IsUntouched call.source → IsCalm call.source → call.reads_after ≡ call.reads_before → KeepsStatus call → KeepsReading call → Wrote names journal log meant call.sink call.report.end → Keeps call
 keeps_usage call names journal log meant none same_log no_log same_journal empty is untouched calm unread status reading w =

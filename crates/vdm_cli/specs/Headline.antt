@@ -4,15 +4,15 @@ use Rattle.std.specs.Prelude.{◌≡◌, ℕ, ◌+◌, ◌≤◌, ◌⊎◌, Boo
 use Rattle.abstract_syntax.specs.Classes.{SpecTree}
 use Rattle.abstract_syntax.specs.Expressions.{ExprTree}
 use Rattle.vdm_kinds.specs.declared.spec_fault.SpecFault.{SpecFault}
-use Rattle.vdm_grammar.specs.Texts.{IsAccepted, IsFirstRefusal, spec_limit}
-use Rattle.report_texts.specs.Words.{IsRunCommand, IsNoCommand}
+use Rattle.text_phases.specs.Phases.{IsAccepted, IsChecked, spec_limit}
+use Rattle.report_texts.specs.Words.{Command, check, run, IsCommand, IsNoCommand, asks_log}
 use Rattle.vdm_report.specs.declared.end.End.{End}
-use Rattle.vdm_report.specs.declared.end.End.TheVariants.{Refused, Usage, ReadFault, WriteFault, OutOfMemory}
+use Rattle.vdm_report.specs.declared.end.End.TheVariants.{Checked, Refused, Usage, ReadFault, WriteFault, OutOfMemory}
 use Rattle.vdm_report.specs.declared.report.Report.{Report}
 use Rattle.vdm_report.specs.Ends.{status_of, finish_in}
 use Rattle.vdm_report.specs.Outside.{Outside, around, IsCalm, IsFaulty, IsUntouched}
 use Rattle.vdm_report.specs.Written.{Wrote}
-use Rattle.vdm_cli.specs.Meant.{read_of, left_of, Runs, Means}
+use Rattle.vdm_cli.specs.Meant.{read_of, left_of, refusal_of, Runs, HasClasses, Means}
 
 -- A call of the program: its words, its source and its sink before and after, how often the source was read before and
 -- after, and the report.
@@ -58,9 +58,9 @@ pub record IsUsage (call : Call) : Type 0 where
 pub record KeepsWords (call : Call) : Type 0 where
   pub usage : call.report.end ≡ Usage → IsNoCommand call.words
   pub no_command : IsNoCommand call.words → IsUsage call
-  pub asked : (text : List ℕ) (asks : Bool)
-      → IsRunCommand call.words text asks
-      → call.report.log ≡ asks
+  pub asked : (command : Command)
+      → IsCommand call.words command
+      → call.report.log ≡ asks_log command
 
 -- at most one byte past the limit was taken from the front of what was told, and each read but the last took a byte
 pub record Takes (call : Call) (told : List ℕ) : Type 0 where
@@ -81,7 +81,7 @@ pub record KeepsReading (call : Call) : Type 0 where
 
 -- the words run the expression of this text, with the log or without
 abbrev pub RunsText : List (List ℕ) → List ℕ → Type 0
-RunsText words text = (log : Bool) × IsRunCommand words text log
+RunsText words text = (log : Bool) × IsCommand words (run text log)
 
 -- the words run the expression of a text that is accepted behind this specification
 abbrev pub AcceptsTexts : List (List ℕ) → List ℕ → Type 0
@@ -93,22 +93,28 @@ AcceptsTexts words spec =
     × RunsText words text
     × IsAccepted spec text names tree expression
 
--- the words run the expression of a text that has this refusal behind these bytes
-abbrev pub RefusesTexts : List (List ℕ) → List ℕ → SpecFault → Type 0
-RefusesTexts words spec fault = (text : List ℕ) × RunsText words text × IsFirstRefusal spec text fault
+-- the words check a specification that is accepted, and has so many classes
+abbrev pub ChecksSpec : List (List ℕ) → List ℕ → ℕ → Type 0
+ChecksSpec words spec classes = IsCommand words check × HasClasses spec classes
+
+-- the words are a command that has this refusal first behind these bytes: `run` by the specification and then its text, and
+-- `check` by the specification alone
+abbrev pub Refuses : List (List ℕ) → List ℕ → SpecFault → Type 0
+Refuses words spec fault = (command : Command) × IsCommand words command × (refusal_of command spec ≡ Some fault)
 
 -- Texts: refused only where the source was read to its end or one byte past its limit, and there exactly with the first
--- refusal; a run ends only where the source was read to its end and both texts are accepted, and there exactly.
+-- refusal; a run ends, and classes are counted, only where the source was read to its end and what the command reads is
+-- accepted, and there exactly.
 pub record KeepsTexts (call : Call) : Type 0 where
   pub refused : (told : List ℕ) (fault : SpecFault)
       → call.source.before ≡ Some told
       → call.report.end ≡ Refused fault
-      → (call.source.after ≡ Some (left_of told)) × RefusesTexts call.words (read_of told) fault
-  pub refuses : (told text : List ℕ) (fault : SpecFault)
+      → (call.source.after ≡ Some (left_of told)) × Refuses call.words (read_of told) fault
+  pub refuses : (told : List ℕ) (command : Command) (fault : SpecFault)
       → call.source.before ≡ Some told
-      → RunsText call.words text
+      → IsCommand call.words command
       → (IsFaulty call.source → ⊥)
-      → IsFirstRefusal (read_of told) text fault
+      → refusal_of command (read_of told) ≡ Some fault
       → StandsFor call.report.end (Refused fault)
   pub finished : (told : List ℕ)
       → call.source.before ≡ Some told
@@ -120,6 +126,16 @@ pub record KeepsTexts (call : Call) : Type 0 where
       → (IsFaulty call.source → ⊥)
       → IsAccepted told text names tree expression
       → IsSome (finish_in call.report.end) ⊎ ((call.report.end ≡ WriteFault) ⊎ (call.report.end ≡ OutOfMemory))
+  pub checked : (told : List ℕ) (classes : ℕ)
+      → call.source.before ≡ Some told
+      → call.report.end ≡ Checked classes
+      → (call.source.after ≡ Some []) × ChecksSpec call.words told classes
+  pub checks : (told : List ℕ) (tree : SpecTree)
+      → call.source.before ≡ Some told
+      → IsCommand call.words check
+      → (IsFaulty call.source → ⊥)
+      → IsChecked told tree
+      → StandsFor call.report.end (Checked (length tree.classes))
 
 -- the journal is a run of the trees of the words' text and of this specification
 pub record RunsOf (call : Call) (spec : List ℕ) : Type 0 where
@@ -129,7 +145,7 @@ pub record RunsOf (call : Call) (spec : List ℕ) : Type 0 where
   pub runs : Runs spec text names call.report.journal
 
 -- Journal: whatever the end is, it is empty, or a run of the trees of the texts, in the order of one lane, and then the
--- source was read to its end. Of a source that tells nothing it is a run behind some specification.
+-- words run one and the source was read to its end. Of a source that tells nothing it is a run behind some specification.
 pub record KeepsJournal (call : Call) : Type 0 where
   pub told : (told : List ℕ)
       → call.source.before ≡ Some told

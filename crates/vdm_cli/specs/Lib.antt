@@ -1,3 +1,4 @@
+pub mod Commands
 pub mod Meant
 pub mod RunEnds
 pub mod Headline

@@ -1,19 +1,20 @@
 -- The end that a call means, where its report is left aside, each with its cause.
-use Rattle.std.specs.Prelude.{◌≡◌, ℕ, ◌+◌, ◌≤◌, ◌⊎◌, Bool, false, List, [], take, drop, Option, Some}
+use Rattle.std.specs.Prelude.{◌≡◌, ℕ, ◌+◌, ◌≤◌, ◌⊎◌, Bool, false, List, [], length, take, drop, Option, Some}
 use Rattle.abstract_syntax.specs.Classes.{SpecTree}
 use Rattle.abstract_syntax.specs.Expressions.{ExprTree}
 use Rattle.run_journal.specs.declared.entry.Entry.{Entry}
-use Rattle.vdm_grammar.specs.Texts.{IsAccepted, IsFirstRefusal, spec_limit}
+use Rattle.vdm_kinds.specs.declared.spec_fault.SpecFault.{SpecFault}
+use Rattle.text_phases.specs.Phases.{IsAccepted, IsChecked, first_refusal, spec_refusal, spec_limit}
 use Rattle.vdm_meaning.specs.Main.{step_limit}
 use Rattle.vdm_legal.specs.Order.{IsInOrder}
 use Rattle.vdm_legal.specs.Finishes.{Finish, ended, failed, finish_of}
 use Rattle.vdm_meaning.specs.Runs.{IsRun}
 use Rattle.vdm_outside.specs.Reading.{AreFirst, TakesAtMost}
-use Rattle.report_texts.specs.Words.{IsRunCommand, IsNoCommand}
+use Rattle.report_texts.specs.Words.{Command, check, run, IsCommand, IsNoCommand, asks_log}
 use Rattle.vdm_report.specs.Outside.{Outside, IsCalm, IsFaulty, IsUntouched}
 use Rattle.vdm_report.specs.Written.{Wrote}
 use Rattle.vdm_report.specs.declared.end.End.{End}
-use Rattle.vdm_report.specs.declared.end.End.TheVariants.{Ended, Refused, Usage, Failed, ReadFault, OutOfMemory}
+use Rattle.vdm_report.specs.declared.end.End.TheVariants.{Ended, Checked, Refused, Usage, Failed, ReadFault, OutOfMemory}
 use Rattle.vdm_report.specs.declared.report.Report.{Report}
 
 -- what is read of the bytes that a source told, all of them or one past the limit, and what is left then
@@ -37,28 +38,55 @@ pub record Runs (spec text : List ℕ) (names : List (List ℕ)) (journal : List
   pub tree : SpecTree
   pub expression : ExprTree
   pub accepted : IsAccepted spec text names tree expression
-  pub run : IsRun tree expression step_limit journal
+  pub run_of : IsRun tree expression step_limit journal
   pub order : IsInOrder tree journal
 
+-- the specification is accepted, and has so many classes
+pub record HasClasses (spec : List ℕ) (classes : ℕ) : Type 0 where
+  pub tree : SpecTree
+  pub accepted : IsChecked spec tree
+  pub count : classes ≡ length tree.classes
+
+-- ---- by the command
+
+-- the first refusal: of the specification alone, or of it and the text that runs
+abbrev pub refusal_of : Command → List ℕ → Option SpecFault
+refusal_of check spec = spec_refusal spec
+refusal_of (run text log) spec = first_refusal spec text
+
+-- the command runs a text, and the journal is the run
+abbrev pub RunsBy : Command → List ℕ → List (List ℕ) → List Entry → Type 0
+RunsBy check spec names journal = ⊥
+RunsBy (run text log) spec names journal = Runs spec text names journal
+
+-- the command checks the specification, which has so many classes
+abbrev pub ChecksBy : Command → List ℕ → ℕ → Type 0
+ChecksBy check spec classes = HasClasses spec classes
+ChecksBy (run text log) spec classes = ⊥
+
+-- ---- the end that is meant
+
 -- a run that ends so
-abbrev pub Finishes : List ℕ → List ℕ → List (List ℕ) → List Entry → Finish → Type 0
-Finishes spec text names journal finish = Runs spec text names journal × (finish_of journal ≡ Some finish)
+abbrev pub Finishes : Command → List ℕ → List (List ℕ) → List Entry → Finish → Type 0
+Finishes command spec names journal finish = RunsBy command spec names journal × (finish_of journal ≡ Some finish)
 
--- the end that is meant of the two texts
-abbrev pub MeansTexts : List ℕ → List ℕ → List (List ℕ) → List Entry → End → Type 0
-MeansTexts spec text names journal (Ended slot) = Finishes spec text names journal (ended slot)
-MeansTexts spec text names journal (Failed fault exit thread place) =
-    Finishes spec text names journal (failed fault exit thread place)
-MeansTexts spec text names journal (Refused fault) = IsFirstRefusal spec text fault × (journal ≡ [])
-MeansTexts spec text names journal OutOfMemory = (journal ≡ []) ⊎ Runs spec text names journal
-MeansTexts spec text names journal _ = ⊥
+-- the end that is meant of a specification under a command
+abbrev pub MeansTexts : Command → List ℕ → List (List ℕ) → List Entry → End → Type 0
+MeansTexts command spec names journal (Ended slot) = Finishes command spec names journal (ended slot)
+MeansTexts command spec names journal (Failed fault exit thread place) =
+    Finishes command spec names journal (failed fault exit thread place)
+MeansTexts command spec names journal (Checked classes) = ChecksBy command spec classes × (journal ≡ [])
+MeansTexts command spec names journal (Refused fault) = (refusal_of command spec ≡ Some fault) × (journal ≡ [])
+MeansTexts command spec names journal OutOfMemory = (journal ≡ []) ⊎ RunsBy command spec names journal
+MeansTexts command spec names journal _ = ⊥
 
--- the end that is meant of a command that runs this text behind the bytes that were read
-abbrev pub MeansRun : Outside → List ℕ → List ℕ → List (List ℕ) → List Entry → End → Type 0
-MeansRun source spec text names journal ReadFault = IsFaulty source × (journal ≡ [])
-MeansRun source spec text names journal OutOfMemory =
-    IsCalm source × ((journal ≡ []) ⊎ (WasRead source spec × Runs spec text names journal))
-MeansRun source spec text names journal end = IsCalm source × WasRead source spec × MeansTexts spec text names journal end
+-- the end that is meant of a command behind the bytes that were read
+abbrev pub MeansCommand : Outside → List ℕ → Command → List (List ℕ) → List Entry → End → Type 0
+MeansCommand source spec command names journal ReadFault = IsFaulty source × (journal ≡ [])
+MeansCommand source spec command names journal OutOfMemory =
+    IsCalm source × ((journal ≡ []) ⊎ (WasRead source spec × RunsBy command spec names journal))
+MeansCommand source spec command names journal end =
+    IsCalm source × WasRead source spec × MeansTexts command spec names journal end
 
 -- faulty words read nothing, and do not ask for the log
 pub record MeansUsage (words : List (List ℕ)) (log : Bool) (source : Outside) (journal : List Entry) : Type 0 where
@@ -68,17 +96,22 @@ pub record MeansUsage (words : List (List ℕ)) (log : Bool) (source : Outside) 
   pub calm : IsCalm source
   pub empty : journal ≡ []
 
+-- the words are this command, and ask for the log where it does
+pub record Asks (words : List (List ℕ)) (log : Bool) (command : Command) : Type 0 where
+  pub words_are : IsCommand words command
+  pub log_is : log ≡ asks_log command
+
 -- the end that is meant of the words, which ask for the log or not; the names are those of the texts that run
 abbrev pub Means : List (List ℕ) → Bool → Outside → List ℕ → List (List ℕ) → List Entry → End → Type 0
 Means words log source spec names journal Usage = MeansUsage words log source journal
 Means words log source spec names journal end =
-    (text : List ℕ) × IsRunCommand words text log × MeansRun source spec text names journal end
+    (command : Command) × Asks words log command × MeansCommand source spec command names journal end
 
--- What a command that runs this text does to its source and its sink, and what it reports: the end that is meant, behind
--- some bytes that were read, and what was written of it.
-pub record RunsCommand (text : List ℕ) (source sink : Outside) (report : Report) : Type 0 where
+-- What a command does to its source and its sink, and what it reports: the end that is meant, behind some bytes that were
+-- read, and what was written of it.
+pub record DoesCommand (command : Command) (source sink : Outside) (report : Report) : Type 0 where
   pub spec : List ℕ
   pub names : List (List ℕ)
   pub meant : End
-  pub means : MeansRun source spec text names report.journal meant
+  pub means : MeansCommand source spec command names report.journal meant
   pub wrote : Wrote names report.journal report.log meant sink report.end

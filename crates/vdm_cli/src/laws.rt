@@ -4,16 +4,16 @@ ghost use Rattle.std.specs.Prelude.{◌≡◌, ◌≢◌, ℕ, List, [], Some, N
 ghost use Rattle.abstract_syntax.specs.Classes.{SpecTree};
 ghost use Rattle.abstract_syntax.specs.Expressions.{ExprTree};
 ghost use Rattle.vdm_kinds.specs.declared.spec_fault.SpecFault.{SpecFault};
-ghost use Rattle.vdm_grammar.specs.Texts.{IsAccepted, IsFirstRefusal};
+ghost use Rattle.text_phases.specs.Phases.{IsAccepted, first_refusal};
 ghost use Rattle.vdm_meaning.specs.Main.{step_limit};
 ghost use Rattle.vdm_legal.specs.Order.{IsInOrder};
 ghost use Rattle.vdm_legal.specs.Finishes.{finish_of};
 ghost use Rattle.vdm_meaning.specs.Runs.{IsRun};
-ghost use Rattle.report_texts.specs.Words.{IsNoCommand};
-ghost use Rattle.vdm_report.specs.declared.end.End.TheVariants.{Refused, Usage, ReadFault};
+ghost use Rattle.report_texts.specs.Words.{check, IsCommand, IsNoCommand};
+ghost use Rattle.vdm_report.specs.declared.end.End.TheVariants.{Checked, Refused, Usage, ReadFault};
 ghost use Rattle.vdm_report.specs.Ends.{finish_in};
 ghost use Rattle.vdm_cli.specs.Meant.{read_of};
-ghost use Rattle.vdm_cli.specs.Headline.{Call, KeepsWords, RunsText, RefusesTexts, KeepsJournal, KeepsOutput};
+ghost use Rattle.vdm_cli.specs.Headline.{Call, KeepsWords, RunsText, ChecksSpec, Refuses, KeepsJournal, KeepsOutput};
 ghost use Rattle.vdm_cli.specs.Following.{IsMeant};
 
 /// The end is the one that is meant, or a write fault or want of memory in its place.
@@ -46,18 +46,22 @@ pub fn the_journal_is_the_run()
         → IsRun tree expression step_limit call.report.journal × IsInOrder tree call.report.journal }
 {}
 
-/// The journal is empty where the words are no command, where the texts have a refusal, where the source was not read to
-/// its end, and under usage, a refusal and a read fault.
+/// The journal is empty where the words are no command, or `check`; where the texts have a refusal, where the source was not
+/// read to its end, and under usage, a refusal, a count of classes and a read fault.
 pub fn the_journal_is_empty()
     ensures no_command { (call : Call)
         → KeepsJournal call
         → IsNoCommand call.words
         → call.report.journal ≡ [] }
+    ensures check_ { (call : Call)
+        → KeepsJournal call
+        → IsCommand call.words check
+        → call.report.journal ≡ [] }
     ensures no_trees { (call : Call) (told text : List ℕ) (fault : SpecFault)
         → KeepsJournal call
         → call.source.before ≡ Some told
         → RunsText call.words text
-        → IsFirstRefusal told text fault
+        → first_refusal told text ≡ Some fault
         → call.report.journal ≡ [] }
     ensures unread { (call : Call) (told : List ℕ)
         → KeepsJournal call
@@ -73,17 +77,41 @@ pub fn the_journal_is_empty()
         → KeepsOutput call
         → call.report.end ≡ Refused fault
         → call.report.journal ≡ [] }
+    ensures checked { (call : Call) (classes : ℕ)
+        → KeepsOutput call
+        → call.report.end ≡ Checked classes
+        → call.report.journal ≡ [] }
     ensures read_fault { (call : Call)
         → KeepsOutput call
         → call.report.end ≡ ReadFault
         → call.report.journal ≡ [] }
 {}
 
-/// A refusal is the first one of the words' text behind some bytes, also where the source tells nothing.
+/// Under `check` no run ends.
+pub fn a_check_runs_nothing()
+    ensures { (call : Call)
+        → KeepsJournal call
+        → KeepsOutput call
+        → IsCommand call.words check
+        → IsSome (finish_in call.report.end)
+        → ⊥ }
+{}
+
+/// A refusal is the first one of the command behind some bytes, also where the source tells nothing.
 pub fn a_silent_refusal_is_first()
     ensures { (call : Call) (fault : SpecFault)
         → KeepsOutput call
         → call.source.before ≡ None
         → call.report.end ≡ Refused fault
-        → (spec : List ℕ) × RefusesTexts call.words spec fault }
+        → (spec : List ℕ) × Refuses call.words spec fault }
+{}
+
+/// The classes that are counted are those of a specification that is accepted and checked, also where the source tells
+/// nothing.
+pub fn a_silent_count_is_a_checks()
+    ensures { (call : Call) (classes : ℕ)
+        → KeepsOutput call
+        → call.source.before ≡ None
+        → call.report.end ≡ Checked classes
+        → (spec : List ℕ) × ChecksSpec call.words spec classes }
 {}

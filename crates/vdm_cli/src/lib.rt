@@ -8,6 +8,6 @@ mod run;
 pub mod vdm_main;
 
 pub use laws::{
-    a_silent_refusal_is_first, the_end_is_meant, the_end_is_the_runs, the_journal_is_empty,
-    the_journal_is_the_run,
+    a_check_runs_nothing, a_silent_count_is_a_checks, a_silent_refusal_is_first, the_end_is_meant,
+    the_end_is_the_runs, the_journal_is_empty, the_journal_is_the_run,
 };

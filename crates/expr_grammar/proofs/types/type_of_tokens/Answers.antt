@@ -1,8 +1,8 @@
 use Rattle.std.proofs.Common.{Err, ap, sym}
 use Rattle.type_reading.specs.Reading.{type_of}
-use Rattle.expr_grammar.proofs.Fronts.{answer-deep}
+use Rattle.text_fronts.proofs.Fronts.{answer-deep}
 use Rattle.expr_grammar.proofs.types.type_of_tokens.Goals as goal
 
 pub returns-in_err-read-clause-refused : goal.returns-in_err-read-clause-refused
 returns-in_err-read-clause-refused c fault e =
-    answer-deep _ c.args.names.now c.args.text.now c.args.tokens.now c.args.at type_of fault (c.in_err-read.ensures.deep fault (let x = rw e at (c.from_residual.ensures.1) in ap Err (sym x)))
+    answer-deep type_of _ c.args.names.now c.args.text.now c.args.tokens.now c.args.at _ fault (c.in_err-read.ensures.deep fault (let x = rw e at (c.from_residual.ensures.1) in ap Err (sym x)))

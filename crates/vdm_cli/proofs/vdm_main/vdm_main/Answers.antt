@@ -1,17 +1,17 @@
 -- A command's report, or that of faulty words.
 use Rattle.std.proofs.Common.{refl, map, []}
 use Rattle.std.specs.String.{string_bytes}
+use Rattle.vdm_cli.specs.Commands.{command_view}
 use Rattle.vdm_cli.specs.Headline.{call_of}
 use Rattle.vdm_cli.proofs.Whole.{keeps_command, keeps_usage, keeps_reading, reads_nothing}
 use Rattle.vdm_cli.proofs.vdm_main.vdm_main.Goals as goal
 
 pub returns-in-Some : goal.returns-in-Some
 returns-in-Some g c =
-    let ran = c.run_command.ensures in
+    let did = c.do_command.ensures in
     let call = call_of g.S.Source.left g.S.Source.faults g.S.Source.reads g.K.Sink.held g.K.Sink.faults (map string_bytes c.args.words.now)
-    c.args.source.now c.run_command.new.source c.args.sink.now c.run_command.new.sink c.run_command.result in
-    keeps_command call (string_bytes c.in-Some.command.text.now) c.in-Some.command.log c.in-Some.ensures ran.log ran.status
-    (keeps_reading call ran.reading.taken ran.reading.turns) ran.runs
+    c.args.source.now c.do_command.new.source c.args.sink.now c.do_command.new.sink c.do_command.result in
+    keeps_command call (command_view c.in-Some.command) c.in-Some.ensures did.log did.status (keeps_reading call did.reading.taken did.reading.turns) did.does
 
 pub returns-in-None : goal.returns-in-None
 returns-in-None g c =

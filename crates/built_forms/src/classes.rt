@@ -1,0 +1,86 @@
+// Classes: the first form that is not built.
+
+ghost use Rattle.std.specs.Prelude.{◌≡◌, map};
+ghost use Rattle.vdm_kinds.specs.declared.name_at.NameAt.{NameAt};
+ghost use Rattle.text_phases.specs.Built.{block_place, unbuilt_in_rest, unbuilt_behind, unbuilt_in_blocks, unbuilt_in_superclasses, unbuilt_in_class, unbuilt_in_classes, unbuilt_in_spec};
+ghost use Rattle.vdm_tree.specs.ClassView.{spec_view, class_view, block_view};
+
+use crate::members::{unbuilt_in_items, unbuilt_in_operations};
+use vdm_kinds::{NameAt, Place};
+use vdm_tree::{Block, ClassDef, Spec};
+
+fn block_place(block: &Block) -> Place
+    ensures { result ≡ block_place (block_view block.now) }
+{
+    match block {
+        Block::Types(_, place)
+        | Block::Values(_, place)
+        | Block::Variables(_, place)
+        | Block::Functions(_, place)
+        | Block::Operations(_, place)
+        | Block::Thread(_, place)
+        | Block::Sync(_, place) => *place,
+    }
+}
+
+/// Where the first of these blocks begins.
+fn unbuilt_in_rest(blocks: &[Block]) -> Option<Place>
+    ensures { result ≡ unbuilt_in_rest (map block_view blocks.now) }
+{
+    let first = blocks.first()?;
+    Some(block_place(first))
+}
+
+/// Where the first form stands that is not built in the blocks behind that of the variables.
+fn unbuilt_behind(blocks: &[Block]) -> Option<Place>
+    ensures { result ≡ unbuilt_behind (map block_view blocks.now) }
+{
+    match blocks {
+        [Block::Operations(operations, _), others @ ..] if !operations.is_empty() => {
+            unbuilt_in_operations(operations).or(unbuilt_in_rest(others))
+        }
+        _ => unbuilt_in_rest(blocks),
+    }
+}
+
+fn unbuilt_in_blocks(blocks: &[Block]) -> Option<Place>
+    ensures { result ≡ unbuilt_in_blocks (map block_view blocks.now) }
+{
+    match blocks {
+        [Block::Variables(items, _), others @ ..] if !items.is_empty() => {
+            unbuilt_in_items(items).or(unbuilt_behind(others))
+        }
+        _ => unbuilt_behind(blocks),
+    }
+}
+
+fn unbuilt_in_superclasses(superclasses: &[NameAt]) -> Option<Place>
+    ensures { result ≡ unbuilt_in_superclasses superclasses.now }
+{
+    let superclass = superclasses.first()?;
+    Some(superclass.place)
+}
+
+fn unbuilt_in_class(class: &ClassDef) -> Option<Place>
+    ensures { result ≡ unbuilt_in_class (class_view class.now) }
+{
+    unbuilt_in_superclasses(&class.superclasses).or(unbuilt_in_blocks(&class.blocks))
+}
+
+/// No class is built but the first.
+fn unbuilt_in_classes(classes: &[ClassDef]) -> Option<Place>
+    ensures { result ≡ unbuilt_in_classes (map class_view classes.now) }
+{
+    match classes {
+        [] => None,
+        [class] => unbuilt_in_class(class),
+        [class, other, ..] => unbuilt_in_class(class).or(Some(other.place)),
+    }
+}
+
+/// Where the first form of a specification stands, in text order, that has no meaning so far; nothing where all are built.
+pub fn unbuilt_in_spec(spec: &Spec) -> Option<Place>
+    ensures { result ≡ unbuilt_in_spec (spec_view spec.now) }
+{
+    unbuilt_in_classes(&spec.classes)
+}

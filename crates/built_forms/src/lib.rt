@@ -1,0 +1,11 @@
+//! What of a tree is built so far: the place of the first form, in text order, that has no meaning yet.
+#![tactic(auto)]
+
+mod classes;
+mod exprs;
+mod members;
+mod standing;
+mod statements;
+
+pub use classes::unbuilt_in_spec;
+pub use exprs::unbuilt_in_expr;

@@ -1,0 +1,187 @@
+// Variables and operations: the first form that is not built.
+
+ghost use Rattle.std.specs.Prelude.{◌≡◌, map, option_map};
+ghost use Rattle.text_phases.specs.Built.{unless, is_same_place, unbuilt_in_type, lacks_initial, unbuilt_in_initial, unbuilt_in_variable, unbuilt_in_item, unbuilt_in_items, is_public, lacks_body, unbuilt_in_parameters, unbuilt_in_patterns, unbuilt_in_result, unbuilt_in_body, unbuilt_in_condition, unbuilt_in_head, unbuilt_behind_head, unbuilt_in_operation, unbuilt_in_operations};
+ghost use Rattle.type_tree.specs.TypeView.{type_view, type_views};
+ghost use Rattle.expr_tree.specs.View.{view_of, boxed_view, pattern_views};
+ghost use Rattle.vdm_tree.specs.StmtView.{boxed_stmt};
+ghost use Rattle.vdm_tree.specs.ClassView.{variable_view, variable_item_view, operation_view, body_view};
+
+use crate::exprs::first_unbuilt;
+use crate::standing::{Standing, expr_first};
+use crate::statements::{unbuilt_in_block, unbuilt_in_stmt};
+use vdm_kinds::{BasicType, Place};
+use vdm_tree::{Access, Body, Expr, Level, OpDef, Pattern, Stmt, TypeExpr, VarDef, VariableItem};
+
+/// Nothing where it is built, else the place.
+fn unless(built: bool, place: Place) -> Option<Place>
+    ensures { result ≡ unless built place }
+{
+    (!built).then_some(place)
+}
+
+fn is_same_place(a: Place, b: Place) -> bool
+    ensures { result ≡ is_same_place a b }
+{
+    a.line == b.line && a.column == b.column
+}
+
+/// The one type is `nat`.
+fn unbuilt_in_type(declared: &TypeExpr) -> Option<Place>
+    ensures { result ≡ unbuilt_in_type (type_view declared.now) }
+{
+    match declared {
+        TypeExpr::Basic(BasicType::Nat, _) => None,
+        _ => Some(declared.place()),
+    }
+}
+
+// ---- variables
+
+fn unbuilt_in_initial(initial: &Option<Box<Expr>>) -> Option<Place>
+    ensures { result ≡ unbuilt_in_initial (option_map boxed_view initial.now) }
+{
+    match initial {
+        Some(value) => first_unbuilt(Standing::Initial, value),
+        None => None,
+    }
+}
+
+fn lacks_initial(initial: &Option<Box<Expr>>, place: Place) -> Option<Place>
+    ensures { result ≡ lacks_initial (option_map boxed_view initial.now) place }
+{
+    match initial {
+        Some(_) => None,
+        None => Some(place),
+    }
+}
+
+fn unbuilt_in_variable(variable: &VarDef) -> Option<Place>
+    ensures { result ≡ unbuilt_in_variable (variable_view variable.now) }
+{
+    let begins = is_same_place(variable.place, variable.name_place);
+    unless(begins, variable.place)
+        .or(lacks_initial(&variable.initial, variable.place))
+        .or(unbuilt_in_type(&variable.declared))
+        .or(unbuilt_in_initial(&variable.initial))
+}
+
+fn unbuilt_in_item(item: &VariableItem) -> Option<Place>
+    ensures { result ≡ unbuilt_in_item (variable_item_view item.now) }
+{
+    match item {
+        VariableItem::Variable(variable) => unbuilt_in_variable(variable),
+        VariableItem::Invariant(_, place) => Some(*place),
+    }
+}
+
+/// Where the first form stands that is not built among variables.
+pub(crate) fn unbuilt_in_items(items: &[VariableItem]) -> Option<Place>
+    ensures { result ≡ unbuilt_in_items (map variable_item_view items.now) }
+{
+    for item in items {
+        if let Some(place) = unbuilt_in_item(item) {
+            return Some(place);
+        }
+    }
+    None
+}
+
+// ---- operations
+
+/// Whether the access is that of the one word `public`.
+fn is_public(access: Access) -> bool
+    ensures { result ≡ is_public access }
+{
+    !access.is_static && matches!(access.level, Level::Public)
+}
+
+fn lacks_body(body: &Body<Box<Stmt>>, place: Place) -> Option<Place>
+    ensures { result ≡ lacks_body (body_view boxed_stmt body.now) place }
+{
+    match body {
+        Body::Written(_) => None,
+        Body::NotYetSpecified | Body::SubclassResponsibility => Some(place),
+    }
+}
+
+fn unbuilt_in_parameters(parameters: &[TypeExpr]) -> Option<Place>
+    ensures { result ≡ unbuilt_in_parameters (type_views parameters.now) }
+{
+    let parameter = parameters.first()?;
+    Some(parameter.place())
+}
+
+fn unbuilt_in_patterns(patterns: &[Pattern]) -> Option<Place>
+    ensures { result ≡ unbuilt_in_patterns (pattern_views patterns.now) }
+{
+    let pattern = patterns.first()?;
+    Some(pattern.place())
+}
+
+fn unbuilt_in_result(declared: &Option<TypeExpr>) -> Option<Place>
+    ensures { result ≡ unbuilt_in_result (option_map type_view declared.now) }
+{
+    match declared {
+        Some(declared) => unbuilt_in_type(declared),
+        None => None,
+    }
+}
+
+/// A body without a result returns nothing, and one with a result returns a value at its end.
+fn unbuilt_in_body(declared: &Option<TypeExpr>, body: &Body<Box<Stmt>>) -> Option<Place>
+    ensures { result ≡ unbuilt_in_body (option_map type_view declared.now) (body_view boxed_stmt body.now) }
+{
+    match body {
+        Body::Written(body) if declared.is_some() => unbuilt_in_block(body),
+        Body::Written(body) => unbuilt_in_stmt(body),
+        _ => None,
+    }
+}
+
+fn unbuilt_in_condition(condition: &Option<Box<Expr>>) -> Option<Place>
+    ensures { result ≡ unbuilt_in_condition (option_map boxed_view condition.now) }
+{
+    match condition {
+        Some(condition) => Some(expr_first(condition)),
+        None => None,
+    }
+}
+
+/// Where the first form of an operation's head stands that is not built; where it begins, if its body is missing.
+fn unbuilt_in_head(operation: &OpDef) -> Option<Place>
+    ensures { result ≡ unbuilt_in_head (operation_view operation.now) }
+{
+    unless(is_public(operation.access), operation.place)
+        .or(lacks_body(&operation.body, operation.place))
+        .or(unbuilt_in_parameters(&operation.parameters))
+        .or(unbuilt_in_result(&operation.result_type))
+        .or(unbuilt_in_patterns(&operation.patterns))
+}
+
+/// Where the first form of its body and its conditions stands that is not built.
+fn unbuilt_behind_head(operation: &OpDef) -> Option<Place>
+    ensures { result ≡ unbuilt_behind_head (operation_view operation.now) }
+{
+    unbuilt_in_body(&operation.result_type, &operation.body)
+        .or(unbuilt_in_condition(&operation.pre))
+        .or(unbuilt_in_condition(&operation.post))
+}
+
+fn unbuilt_in_operation(operation: &OpDef) -> Option<Place>
+    ensures { result ≡ unbuilt_in_operation (operation_view operation.now) }
+{
+    unbuilt_in_head(operation).or(unbuilt_behind_head(operation))
+}
+
+/// Where the first form stands that is not built among operations.
+pub(crate) fn unbuilt_in_operations(operations: &[OpDef]) -> Option<Place>
+    ensures { result ≡ unbuilt_in_operations (map operation_view operations.now) }
+{
+    for operation in operations {
+        if let Some(place) = unbuilt_in_operation(operation) {
+            return Some(place);
+        }
+    }
+    None
+}

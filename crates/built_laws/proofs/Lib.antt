@@ -1,0 +1,4 @@
+pub mod Plans
+pub mod Sums
+pub mod Bodies
+pub mod Commands

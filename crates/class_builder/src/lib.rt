@@ -1,0 +1,8 @@
+//! Builds the specification that tokens are.
+#![tactic(auto)]
+
+mod blocks;
+mod classes;
+mod specs;
+
+pub use specs::build_spec;

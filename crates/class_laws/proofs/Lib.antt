@@ -1,0 +1,11 @@
+pub mod SoundHeads
+pub mod SoundDefinitions
+pub mod SoundClasses
+pub mod Behind
+pub mod ReadHeads
+pub mod ReadItems
+pub mod InRoom
+pub mod ReadDefinitions
+pub mod ReadFunctions
+pub mod ReadClasses
+pub mod Specifications

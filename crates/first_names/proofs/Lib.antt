@@ -1,4 +1,0 @@
-pub mod Bodies
-pub mod Differing
-pub mod Found
-pub mod ScopeLemmas

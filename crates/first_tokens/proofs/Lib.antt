@@ -1,4 +1,0 @@
-pub mod Fronts
-pub mod Lexing
-pub mod Naming
-pub mod Numerals

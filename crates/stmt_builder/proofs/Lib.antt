@@ -1,0 +1,4 @@
+pub mod Blocks
+pub mod Branches
+pub mod CaseLists
+pub mod Trees

@@ -1,0 +1,6 @@
+//! Reads statements of a text.
+#![tactic(auto)]
+
+mod stmts;
+
+pub use stmts::stmt_of_tokens;

@@ -1,0 +1,4 @@
+pub mod Beginnings
+pub mod Between
+pub mod Lets
+pub mod Openings

@@ -1,0 +1,353 @@
+-- What is built: the forms that have a meaning so far. Any other form is left out, and the first in text order is the fault's place.
+use Rattle.std.specs.Prelude.{◌≡◌, Bool, true, false, not, ◌&&◌, nat_eq, if◌then◌else◌, List, [], ◌∷◌, Option, Some, None}
+use Rattle.vdm_kinds.specs.declared.access.Access.{Access}
+use Rattle.vdm_kinds.specs.declared.access.Level.{Level}
+use Rattle.vdm_kinds.specs.declared.access.Level.TheVariants.{Private, Protected, Public}
+use Rattle.vdm_kinds.specs.declared.basic_type.BasicType.TheVariants.{Nat}
+use Rattle.vdm_kinds.specs.declared.name_at.NameAt.{NameAt}
+use Rattle.vdm_kinds.specs.declared.place.Place.{Place}
+use Rattle.vdm_kinds.specs.declared.sign.Sign.TheVariants.{Plus}
+use Rattle.abstract_syntax.specs.Literals.{whole_literal}
+use Rattle.abstract_syntax.specs.Types.{TypeTree, basic_type, type_place}
+use Rattle.abstract_syntax.specs.Expressions.{
+  ExprTree,
+  ExprTrees,
+  PatternTree,
+  literal,
+  named,
+  joined,
+  create,
+  apply,
+  subsequence,
+  select,
+  select_of_class,
+  select_part,
+  no_exprs,
+  one_expr,
+  expr_place,
+  pattern_place,
+}
+use Rattle.abstract_syntax.specs.Statements.{
+  TargetStepTree,
+  field_of,
+  element_at,
+  TargetTree,
+  variable,
+  variable_of_class,
+  DclTree,
+  StmtTree,
+  StmtTrees,
+  assign,
+  call,
+  block,
+  returns,
+  no_stmts,
+  one_stmt,
+  stmt_place,
+}
+use Rattle.abstract_syntax.specs.Classes.{
+  VariableTree,
+  VariableItem,
+  variable_item,
+  invariant_item,
+  Body,
+  written,
+  not_yet_specified,
+  subclass_responsibility,
+  OperationTree,
+  BlockTree,
+  types,
+  values,
+  variables,
+  functions,
+  operations,
+  thread_of,
+  synchronisation,
+  ClassTree,
+  SpecTree,
+}
+
+-- what stands first: the one in front, where there is one
+abbrev pub or_behind : {A : Type 0} → Option A → Option A → Option A
+or_behind None behind = behind
+or_behind (Some found) behind = Some found
+
+-- nothing where the test holds, and else the place
+abbrev pub unless : Bool → Place → Option Place
+unless built place = if built then None else Some place
+
+-- ---- expressions
+
+-- The first node that is not built, where `own` tells it of a node by itself and of what stands right of it. A node whose place is
+-- behind its first token is looked at behind its left part.
+abbrev pub first_unbuilt : (ExprTree → Option Place) → ExprTree → Option Place
+first_unbuilt own (joined left sign right place) = or_behind (first_unbuilt own left) (own (joined left sign right place))
+first_unbuilt own (apply head arguments place) = or_behind (first_unbuilt own head) (own (apply head arguments place))
+first_unbuilt own (subsequence target first last place) = or_behind (first_unbuilt own target) (own (subsequence target first last place))
+first_unbuilt own (select target name name_place place) = or_behind (first_unbuilt own target) (own (select target name name_place place))
+first_unbuilt own (select_of_class target class class_place name name_place place) =
+    or_behind (first_unbuilt own target) (own (select_of_class target class class_place name name_place place))
+first_unbuilt own (select_part target number place) = or_behind (first_unbuilt own target) (own (select_part target number place))
+first_unbuilt own tree = own tree
+
+-- the place of the leftmost node, built or not
+abbrev pub expr_first : ExprTree → Place
+expr_first (joined left sign right place) = expr_first left
+expr_first (apply head arguments place) = expr_first head
+expr_first (subsequence target first last place) = expr_first target
+expr_first (select target name name_place place) = expr_first target
+expr_first (select_of_class target class class_place name name_place place) = expr_first target
+expr_first (select_part target number place) = expr_first target
+expr_first tree = expr_place tree
+
+-- of an initial value a whole literal
+abbrev pub in_initial : ExprTree → Option Place
+in_initial (literal (whole_literal n) place) = None
+in_initial tree = Some (expr_place tree)
+
+-- of a term a whole literal and a name
+abbrev pub in_term : ExprTree → Option Place
+in_term (literal (whole_literal n) place) = None
+in_term (named name place) = None
+in_term tree = Some (expr_place tree)
+
+-- of a sum the terms, and a `+` with a term on its right
+abbrev pub in_sum : ExprTree → Option Place
+in_sum (literal (whole_literal n) place) = None
+in_sum (named name place) = None
+in_sum (joined left Plus right place) = first_unbuilt in_term right
+in_sum tree = Some (expr_place tree)
+
+-- no argument is built
+abbrev pub in_arguments : ExprTrees → Option Place
+in_arguments no_exprs = None
+in_arguments (one_expr argument others) = Some (expr_first argument)
+
+-- of what is called a name, and its application to no argument
+abbrev pub in_call : ExprTree → Option Place
+in_call (named name place) = None
+in_call (apply (named name name_place) arguments place) = in_arguments arguments
+in_call tree = Some (expr_place tree)
+
+abbrev pub unbuilt_in_sum : ExprTree → Option Place
+unbuilt_in_sum tree = first_unbuilt in_sum tree
+
+-- a call statement is an application
+abbrev pub unbuilt_in_call : ExprTree → Option Place
+unbuilt_in_call (named name place) = Some place
+unbuilt_in_call tree = first_unbuilt in_call tree
+
+-- arguments where none is built, at the bracket
+abbrev pub unless_empty : ExprTrees → Place → Option Place
+unless_empty no_exprs place = None
+unless_empty (one_expr argument others) place = Some place
+
+-- a new object without arguments, and what is selected from one
+abbrev pub is_new : ExprTree → Bool
+is_new (create class class_place no_exprs place) = true
+is_new _ = false
+
+abbrev pub is_of_new : ExprTree → Bool
+is_of_new (select target name name_place place) = is_new target
+is_of_new _ = false
+
+-- The command's expression is a sum, or `new C().op()`; what stands right of such a call is not built.
+abbrev pub unbuilt_in_expr : ExprTree → Option Place
+unbuilt_in_expr (apply head arguments place) =
+    if is_of_new head then unless_empty arguments place else or_behind (unbuilt_in_expr head) (Some place)
+unbuilt_in_expr (select target name name_place place) =
+    if is_new target then Some place else or_behind (unbuilt_in_expr target) (Some place)
+unbuilt_in_expr (subsequence target first last place) = or_behind (unbuilt_in_expr target) (Some place)
+unbuilt_in_expr (select_of_class target class class_place name name_place place) = or_behind (unbuilt_in_expr target) (Some place)
+unbuilt_in_expr (select_part target number place) = or_behind (unbuilt_in_expr target) (Some place)
+unbuilt_in_expr tree = unbuilt_in_sum tree
+
+-- ---- statements
+
+abbrev pub step_place : TargetStepTree → Place
+step_place (field_of name name_place place) = place
+step_place (element_at index place) = place
+
+-- a variable without steps
+abbrev pub unbuilt_in_target : TargetTree → Option Place
+unbuilt_in_target (variable name [] place) = None
+unbuilt_in_target (variable name (step ∷ steps) place) = Some (step_place step)
+unbuilt_in_target (variable_of_class class name name_place steps place) = Some place
+
+-- no local variables
+abbrev pub unbuilt_in_locals : List DclTree → Option Place
+unbuilt_in_locals [] = None
+unbuilt_in_locals (dcl ∷ dcls) = Some dcl.place
+
+abbrev mutual
+  -- where no `return` may stand: an assignment, a call, and a block of these
+  pub unbuilt_in_stmt : StmtTree → Option Place
+  unbuilt_in_stmt (assign target value place) = or_behind (unbuilt_in_target target) (unbuilt_in_sum value)
+  unbuilt_in_stmt (call application place) = unbuilt_in_call application
+  unbuilt_in_stmt (block locals statements place) = or_behind (unbuilt_in_locals locals) (unbuilt_in_stmts statements)
+  unbuilt_in_stmt statement = Some (stmt_place statement)
+
+  pub unbuilt_in_stmts : StmtTrees → Option Place
+  unbuilt_in_stmts no_stmts = None
+  unbuilt_in_stmts (one_stmt statement statements) = or_behind (unbuilt_in_stmt statement) (unbuilt_in_stmts statements)
+
+-- where a `return` has to stand: one with a value
+abbrev pub unbuilt_in_return : StmtTree → Option Place
+unbuilt_in_return (returns (Some value) place) = unbuilt_in_sum value
+unbuilt_in_return statement = Some (stmt_place statement)
+
+-- statements of which the last has to be a `return`, in a block at this place
+abbrev pub unbuilt_to_return : Place → StmtTrees → Option Place
+unbuilt_to_return place no_stmts = Some place
+unbuilt_to_return place (one_stmt statement no_stmts) = unbuilt_in_return statement
+unbuilt_to_return place (one_stmt statement (one_stmt next statements)) =
+    or_behind (unbuilt_in_stmt statement) (unbuilt_to_return place (one_stmt next statements))
+
+-- where a value has to be returned: a block that ends in its one `return`
+abbrev pub unbuilt_in_block : StmtTree → Option Place
+unbuilt_in_block (block locals statements place) = or_behind (unbuilt_in_locals locals) (unbuilt_to_return place statements)
+unbuilt_in_block statement = Some (stmt_place statement)
+
+-- ---- variables and operations
+
+-- the one type is `nat`
+abbrev pub unbuilt_in_type : TypeTree → Option Place
+unbuilt_in_type (basic_type Nat place) = None
+unbuilt_in_type declared = Some (type_place declared)
+
+abbrev pub is_same_place : Place → Place → Bool
+is_same_place a b = nat_eq a.line b.line && nat_eq a.column b.column
+
+-- an initial value is given, or the place is that of the definition
+abbrev pub lacks_initial : Option ExprTree → Place → Option Place
+lacks_initial None place = Some place
+lacks_initial (Some value) place = None
+
+abbrev pub unbuilt_in_initial : Option ExprTree → Option Place
+unbuilt_in_initial None = None
+unbuilt_in_initial (Some value) = first_unbuilt in_initial value
+
+-- a variable begins with its name, with no word of access, and has an initial value
+abbrev pub unbuilt_in_variable : VariableTree → Option Place
+unbuilt_in_variable v =
+    or_behind (unless (is_same_place v.place v.name_place) v.place)
+    (or_behind (lacks_initial v.initial v.place)
+    (or_behind (unbuilt_in_type v.declared) (unbuilt_in_initial v.initial)))
+
+abbrev pub unbuilt_in_item : VariableItem → Option Place
+unbuilt_in_item (variable_item v) = unbuilt_in_variable v
+unbuilt_in_item (invariant_item condition place) = Some place
+
+abbrev pub unbuilt_in_items : List VariableItem → Option Place
+unbuilt_in_items [] = None
+unbuilt_in_items (item ∷ items) = or_behind (unbuilt_in_item item) (unbuilt_in_items items)
+
+abbrev is_public_level : Level → Bool
+is_public_level Public = true
+is_public_level Private = false
+is_public_level Protected = false
+
+-- the one word `public`
+abbrev pub is_public : Access → Bool
+is_public access = not access.is_static && is_public_level access.level
+
+-- a body is written, or the place is that of the definition
+abbrev pub lacks_body : Body StmtTree → Place → Option Place
+lacks_body (written body) place = None
+lacks_body not_yet_specified place = Some place
+lacks_body subclass_responsibility place = Some place
+
+-- no parameter is built
+abbrev pub unbuilt_in_parameters : List TypeTree → Option Place
+unbuilt_in_parameters [] = None
+unbuilt_in_parameters (parameter ∷ parameters) = Some (type_place parameter)
+
+abbrev pub unbuilt_in_patterns : List PatternTree → Option Place
+unbuilt_in_patterns [] = None
+unbuilt_in_patterns (pattern ∷ patterns) = Some (pattern_place pattern)
+
+abbrev pub unbuilt_in_result : Option TypeTree → Option Place
+unbuilt_in_result None = None
+unbuilt_in_result (Some declared) = unbuilt_in_type declared
+
+-- a body without a result returns nothing, and one with a result returns a value at its end
+abbrev pub unbuilt_in_body : Option TypeTree → Body StmtTree → Option Place
+unbuilt_in_body None (written body) = unbuilt_in_stmt body
+unbuilt_in_body (Some declared) (written body) = unbuilt_in_block body
+unbuilt_in_body result _ = None
+
+-- no condition is built
+abbrev pub unbuilt_in_condition : Option ExprTree → Option Place
+unbuilt_in_condition None = None
+unbuilt_in_condition (Some condition) = Some (expr_first condition)
+
+-- the head of an operation is that of a public one with a body, without parameters
+abbrev pub unbuilt_in_head : OperationTree → Option Place
+unbuilt_in_head o =
+    or_behind (unless (is_public o.access) o.place)
+    (or_behind (lacks_body o.body o.place)
+    (or_behind (unbuilt_in_parameters o.parameters)
+    (or_behind (unbuilt_in_result o.result_type) (unbuilt_in_patterns o.patterns))))
+
+-- behind it stand the body, and no condition
+abbrev pub unbuilt_behind_head : OperationTree → Option Place
+unbuilt_behind_head o =
+    or_behind (unbuilt_in_body o.result_type o.body) (or_behind (unbuilt_in_condition o.pre) (unbuilt_in_condition o.post))
+
+abbrev pub unbuilt_in_operation : OperationTree → Option Place
+unbuilt_in_operation o = or_behind (unbuilt_in_head o) (unbuilt_behind_head o)
+
+abbrev pub unbuilt_in_operations : List OperationTree → Option Place
+unbuilt_in_operations [] = None
+unbuilt_in_operations (definition ∷ definitions) = or_behind (unbuilt_in_operation definition) (unbuilt_in_operations definitions)
+
+-- ---- classes
+
+abbrev pub block_place : BlockTree → Place
+block_place (types definitions place) = place
+block_place (values definitions place) = place
+block_place (variables items place) = place
+block_place (functions definitions place) = place
+block_place (operations definitions place) = place
+block_place (thread_of thread place) = place
+block_place (synchronisation clauses place) = place
+
+-- no further block is built
+abbrev pub unbuilt_in_rest : List BlockTree → Option Place
+unbuilt_in_rest [] = None
+unbuilt_in_rest (found ∷ blocks) = Some (block_place found)
+
+-- behind the variables: one block of operations, with one or more
+abbrev pub unbuilt_behind : List BlockTree → Option Place
+unbuilt_behind (operations (definition ∷ definitions) place ∷ blocks) =
+    or_behind (unbuilt_in_operations (definition ∷ definitions)) (unbuilt_in_rest blocks)
+unbuilt_behind blocks = unbuilt_in_rest blocks
+
+-- first one block of variables, with one or more
+abbrev pub unbuilt_in_blocks : List BlockTree → Option Place
+unbuilt_in_blocks (variables (item ∷ items) place ∷ blocks) = or_behind (unbuilt_in_items (item ∷ items)) (unbuilt_behind blocks)
+unbuilt_in_blocks blocks = unbuilt_behind blocks
+
+-- no class has a superclass
+abbrev pub unbuilt_in_superclasses : List NameAt → Option Place
+unbuilt_in_superclasses [] = None
+unbuilt_in_superclasses (superclass ∷ superclasses) = Some superclass.place
+
+abbrev pub unbuilt_in_class : ClassTree → Option Place
+unbuilt_in_class class = or_behind (unbuilt_in_superclasses class.superclasses) (unbuilt_in_blocks class.blocks)
+
+-- no class, or one
+abbrev pub unbuilt_in_classes : List ClassTree → Option Place
+unbuilt_in_classes [] = None
+unbuilt_in_classes (class ∷ []) = unbuilt_in_class class
+unbuilt_in_classes (class ∷ other ∷ classes) = or_behind (unbuilt_in_class class) (Some other.place)
+
+abbrev pub unbuilt_in_spec : SpecTree → Option Place
+unbuilt_in_spec spec = unbuilt_in_classes spec.classes
+
+-- all of it is built
+abbrev pub IsBuilt : SpecTree → Type 0
+IsBuilt spec = unbuilt_in_spec spec ≡ None
+
+abbrev pub IsBuiltExpr : ExprTree → Type 0
+IsBuiltExpr tree = unbuilt_in_expr tree ≡ None

@@ -1,0 +1,4 @@
+pub mod Built
+pub mod Naming
+pub mod Phases
+pub mod Worked

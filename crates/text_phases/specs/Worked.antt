@@ -1,0 +1,124 @@
+-- Trees to work out. Each node stands in its column of line 1.
+use Rattle.std.specs.Prelude.{ℕ, ◌+◌, pos, true, false, List, [], ◌∷◌, Option, Some, None}
+use Rattle.vdm_kinds.specs.declared.access.Level.TheVariants.{Private, Public}
+use Rattle.vdm_kinds.specs.declared.basic_type.BasicType.TheVariants.{Nat}
+use Rattle.vdm_kinds.specs.declared.name.Name.{Name}
+use Rattle.vdm_kinds.specs.declared.part.Part.TheVariants.{Spec}
+use Rattle.vdm_kinds.specs.declared.place.Place.{Place}
+use Rattle.vdm_kinds.specs.declared.sign.Sign.{Sign}
+use Rattle.abstract_syntax.specs.Literals.{whole_literal, boolean_literal}
+use Rattle.abstract_syntax.specs.Types.{TypeTree, basic_type}
+use Rattle.abstract_syntax.specs.Expressions.{ExprTree, ExprTrees, literal, named, joined, create, apply, select, no_exprs, one_expr}
+use Rattle.abstract_syntax.specs.Statements.{variable, StmtTree, StmtTrees, assign, call, block, returns, no_stmts, one_stmt}
+use Rattle.abstract_syntax.specs.Classes.{VariableTree, variable_item, written, OperationTree, BlockTree, variables, operations, ClassTree, SpecTree}
+
+abbrev pub at : ℕ → Place
+at column = record { part = Spec; line = 1; column = column }
+
+abbrev pub name : ℕ → Name
+name n = record { 0 = n }
+
+-- names behind the built-in ones: the class's, a variable's, an operation's
+abbrev pub class_name : Name
+class_name = name 3
+
+abbrev pub n : Name
+n = name 4
+
+abbrev pub op : Name
+op = name 5
+
+abbrev pub one : ℕ → ExprTree
+one column = literal (whole_literal (pos 1)) (at column)
+
+abbrev pub truth : ℕ → ExprTree
+truth column = literal (boolean_literal true) (at column)
+
+abbrev pub use_of : Name → ℕ → ExprTree
+use_of name column = named name (at column)
+
+abbrev pub sign_between : ExprTree → Sign → ℕ → ExprTree → ExprTree
+sign_between left sign column right = joined left sign right (at column)
+
+abbrev pub applied : ExprTree → ExprTrees → ℕ → ExprTree
+applied head arguments column = apply head arguments (at column)
+
+-- `.name`, with the dot in this column
+abbrev pub selected : ExprTree → Name → ℕ → ExprTree
+selected target name column = select target name (at (column + 1)) (at column)
+
+-- `new C`, from this column on
+abbrev pub new_of : ExprTrees → ℕ → ExprTree
+new_of arguments column = create class_name (at (column + 4)) arguments (at column)
+
+abbrev pub an_argument : ℕ → ExprTrees
+an_argument column = one_expr (one column) no_exprs
+
+-- `new C().op()` from column 1 on: the dot in 8, the bracket in 11
+abbrev pub call_of_new : ExprTrees → ExprTree
+call_of_new arguments = applied (selected (new_of no_exprs 1) op 8) arguments 11
+
+-- ---- statements
+
+abbrev pub listed : List StmtTree → StmtTrees
+listed [] = no_stmts
+listed (statement ∷ statements) = one_stmt statement (listed statements)
+
+abbrev pub in_block : List StmtTree → ℕ → StmtTree
+in_block statements column = block [] (listed statements) (at column)
+
+abbrev pub set_to : Name → ExprTree → ℕ → StmtTree
+set_to name value column = assign (variable name [] (at column)) value (at column)
+
+-- `op()`, for a name of two letters
+abbrev pub call_to : Name → ℕ → StmtTree
+call_to name column = call (applied (use_of name column) no_exprs (column + 2)) (at column)
+
+abbrev pub gives : ExprTree → ℕ → StmtTree
+gives value column = returns (Some value) (at column)
+
+-- ---- classes
+
+abbrev pub nat_type : TypeTree
+nat_type = basic_type Nat (at 20)
+
+-- `n : nat := 1`, from this column on
+abbrev pub a_variable : Name → ℕ → VariableTree
+a_variable name column = record {
+  access = record { is_static = false; level = Private };
+  name = name;
+  name_place = at column;
+  declared = basic_type Nat (at (column + 4));
+  initial = Some (one (column + 11));
+  place = at column;
+}
+
+-- `public op : ..`, from this column on, with a result or without
+abbrev pub an_operation : Name → Option TypeTree → StmtTree → ℕ → OperationTree
+an_operation name result body column = record {
+  access = record { is_static = false; level = Public };
+  name = name;
+  name_place = at (column + 7);
+  parameters = [];
+  result_type = result;
+  patterns = [];
+  body = written body;
+  pre = None;
+  post = None;
+  place = at column;
+}
+
+abbrev pub a_class : List BlockTree → ClassTree
+a_class blocks = record { name = class_name; name_place = at 7; superclasses = []; blocks = blocks; place = at 1 }
+
+abbrev pub spec_of : List BlockTree → SpecTree
+spec_of blocks = record { classes = a_class blocks ∷ [] }
+
+-- a class of one operation, in column 30
+abbrev pub spec_with : Option TypeTree → StmtTree → SpecTree
+spec_with result body = spec_of (operations (an_operation op result body 30 ∷ []) (at 9) ∷ [])
+
+-- a class with the variable `n` in column 30 and an operation in column 60
+abbrev pub spec_over : Option TypeTree → StmtTree → SpecTree
+spec_over result body =
+    spec_of (variables (variable_item (a_variable n 30) ∷ []) (at 9) ∷ operations (an_operation op result body 60 ∷ []) (at 50) ∷ [])

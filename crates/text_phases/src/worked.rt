@@ -1,0 +1,116 @@
+// Trees that are worked out: the first form that is not built, and the first name that stands for nothing.
+
+ghost use Rattle.std.specs.Prelude.{◌≡◌, true, false, [], ◌∷◌, Some, None};
+ghost use Rattle.vdm_kinds.specs.declared.access.Level.TheVariants.{Protected};
+ghost use Rattle.vdm_kinds.specs.declared.basic_type.BasicType.TheVariants.{Int};
+ghost use Rattle.vdm_kinds.specs.declared.sign.Sign.TheVariants.{Plus, Minus, Times};
+ghost use Rattle.vdm_kinds.specs.declared.spec_kind.SpecKind.TheVariants.{SyntaxFault, UnknownName};
+ghost use Rattle.vdm_lexer.specs.Lexemes.{fault_at};
+ghost use Rattle.abstract_syntax.specs.Types.{basic_type, bracketed_type};
+ghost use Rattle.abstract_syntax.specs.Expressions.{bracketed, prefixed, no_exprs};
+ghost use Rattle.abstract_syntax.specs.Statements.{variable, variable_of_class, element_at, field_of, assign, call, block, returns, skips, no_stmts};
+ghost use Rattle.abstract_syntax.specs.Classes.{variable_item, invariant_item, not_yet_specified, types, variables, operations};
+ghost use Rattle.text_phases.specs.Built.{unbuilt_in_expr, unbuilt_in_initial, unbuilt_in_stmt, unbuilt_in_variable, unbuilt_in_operation, unbuilt_in_spec};
+ghost use Rattle.text_phases.specs.Naming.{spec_names_fault, expr_names_fault};
+ghost use Rattle.text_phases.specs.Worked.{at, name, class_name, n, op, one, truth, use_of, sign_between, applied, selected, new_of, an_argument, call_of_new, in_block, set_to, call_to, gives, nat_type, a_variable, an_operation, a_class, spec_of, spec_with, spec_over};
+
+/// Expressions of the command, and initial values.
+pub fn built_expressions()
+    ensures minus { unbuilt_in_expr (sign_between (one 1) Minus 3 (one 5)) ≡ Some (at 3) }
+    ensures truth { unbuilt_in_expr (sign_between (truth 1) Plus 6 (one 8)) ≡ Some (at 1) }
+    ensures brackets { unbuilt_in_expr (bracketed (one 2) (at 1)) ≡ Some (at 1) }
+    ensures selection { unbuilt_in_expr (selected (use_of n 1) op 2) ≡ Some (at 2) }
+    ensures on_the_right { unbuilt_in_expr (sign_between (one 1) Plus 3 (bracketed (one 6) (at 5))) ≡ Some (at 5) }
+    ensures product_first { unbuilt_in_expr (sign_between (sign_between (one 1) Times 3 (one 5)) Plus 7 (one 9)) ≡ Some (at 3) }
+    ensures product_last { unbuilt_in_expr (sign_between (one 1) Plus 3 (sign_between (one 5) Times 7 (one 9))) ≡ Some (at 7) }
+    ensures new_with_argument { unbuilt_in_expr (applied (selected (new_of (an_argument 7) 1) op 9) no_exprs 12) ≡ Some (at 1) }
+    ensures new_alone { unbuilt_in_expr (new_of no_exprs 1) ≡ Some (at 1) }
+    ensures argument { unbuilt_in_expr (call_of_new (an_argument 12)) ≡ Some (at 11) }
+    ensures selected { unbuilt_in_expr (selected (new_of no_exprs 1) n 8) ≡ Some (at 8) }
+    ensures called_again { unbuilt_in_expr (applied (selected (call_of_new no_exprs) op 13) no_exprs 16) ≡ Some (at 13) }
+    ensures added { unbuilt_in_expr (sign_between (one 1) Plus 3 (new_of no_exprs 5)) ≡ Some (at 5) }
+    ensures applied { unbuilt_in_expr (applied (use_of op 1) no_exprs 3) ≡ Some (at 3) }
+    ensures called { unbuilt_in_expr (call_of_new no_exprs) ≡ None }
+    ensures sum { unbuilt_in_expr (sign_between (sign_between (one 1) Plus 3 (use_of n 5)) Plus 7 (one 9)) ≡ None }
+    ensures initial_sign { unbuilt_in_initial (Some (prefixed Minus (one 3) (at 1))) ≡ Some (at 1) }
+    ensures initial_sum { unbuilt_in_initial (Some (sign_between (one 1) Plus 3 (one 5))) ≡ Some (at 3) }
+    ensures initial_name { unbuilt_in_initial (Some (use_of n 1)) ≡ Some (at 1) }
+    ensures initial { unbuilt_in_initial (Some (one 1)) ≡ None }
+{}
+
+/// Statements and operations.
+pub fn built_operations()
+    ensures skip { unbuilt_in_stmt (skips (at 1)) ≡ Some (at 1) }
+    ensures step { unbuilt_in_stmt (assign (variable n (element_at (one 3) (at 2) ∷ []) (at 1)) (truth 8) (at 1)) ≡ Some (at 2) }
+    ensures other_class { unbuilt_in_stmt (assign (variable_of_class class_name n (at 3) [] (at 1)) (one 8) (at 1)) ≡ Some (at 1) }
+    ensures value { unbuilt_in_stmt (set_to n (truth 6) 1) ≡ Some (at 6) }
+    ensures argument { unbuilt_in_stmt (call (applied (use_of op 1) (an_argument 4) 3) (at 1)) ≡ Some (at 4) }
+    ensures head { unbuilt_in_stmt (call (applied (selected (use_of n 1) op 2) no_exprs 5) (at 1)) ≡ Some (at 2) }
+    ensures twice { unbuilt_in_stmt (call (applied (applied (use_of op 1) no_exprs 3) no_exprs 5) (at 1)) ≡ Some (at 5) }
+    ensures nested { unbuilt_in_stmt (in_block (set_to n (one 7) 2 ∷ in_block (call_to op 11 ∷ skips (at 17) ∷ []) 10 ∷ []) 1) ≡ Some (at 17) }
+    ensures returned { unbuilt_in_spec (spec_with None (in_block (gives (one 59) 52 ∷ []) 51)) ≡ Some (at 52) }
+    ensures no_block { unbuilt_in_spec (spec_with (Some nat_type) (gives (one 58) 51)) ≡ Some (at 51) }
+    ensures no_return { unbuilt_in_spec (spec_with (Some nat_type) (in_block (call_to op 52 ∷ []) 51)) ≡ Some (at 52) }
+    ensures early { unbuilt_in_spec (spec_with (Some nat_type) (in_block (gives (one 59) 52 ∷ gives (one 69) 62 ∷ []) 51)) ≡ Some (at 52) }
+    ensures no_value { unbuilt_in_spec (spec_with (Some nat_type) (in_block (returns None (at 52) ∷ []) 51)) ≡ Some (at 52) }
+    ensures at_its_end { unbuilt_in_spec (spec_with (Some nat_type) (in_block (call_to op 52 ∷ gives (one 65) 58 ∷ []) 51)) ≡ None }
+    ensures other_type { unbuilt_in_spec (spec_with (Some (basic_type Int (at 44))) (skips (at 60))) ≡ Some (at 44) }
+    ensures private { unbuilt_in_operation (record (an_operation op None (skips (at 60)) 30) { access = record { is_static = false; level = Protected } })
+        ≡ Some (at 30) }
+    ensures no_body { unbuilt_in_operation (record (an_operation op (Some (basic_type Int (at 44))) (skips (at 60)) 30) { body = not_yet_specified })
+        ≡ Some (at 30) }
+    ensures condition { unbuilt_in_operation (record (an_operation op None (call_to op 60) 30) { pre = Some (sign_between (one 70) Minus 72 (one 74)) })
+        ≡ Some (at 70) }
+{}
+
+/// Variables, blocks and classes.
+pub fn built_classes()
+    ensures access_word { unbuilt_in_variable (record (a_variable n 37) { place = at 30 }) ≡ Some (at 30) }
+    ensures no_initial { unbuilt_in_variable (record (a_variable n 30) { declared = basic_type Int (at 34); initial = None }) ≡ Some (at 30) }
+    ensures brackets { unbuilt_in_variable (record (a_variable n 30) { declared = bracketed_type nat_type (at 34) }) ≡ Some (at 34) }
+    ensures invariant { unbuilt_in_spec (spec_of (variables (invariant_item (truth 34) (at 30) ∷ []) (at 9) ∷ [])) ≡ Some (at 30) }
+    ensures empty_block { unbuilt_in_spec (spec_of (variables [] (at 9) ∷ [])) ≡ Some (at 9) }
+    ensures other_block { unbuilt_in_spec (spec_of (types [] (at 9) ∷ operations (an_operation op None (skips (at 60)) 30 ∷ []) (at 20) ∷ [])) ≡ Some (at 9) }
+    ensures behind_operations { unbuilt_in_spec (spec_of (operations (an_operation op None (call_to op 60) 30 ∷ []) (at 9)
+        ∷ variables (variable_item (a_variable n 80) ∷ []) (at 70) ∷ [])) ≡ Some (at 70) }
+    ensures second_block { unbuilt_in_spec (spec_of (variables (variable_item (a_variable n 30) ∷ []) (at 9)
+        ∷ variables (variable_item (a_variable op 80) ∷ []) (at 70) ∷ [])) ≡ Some (at 70) }
+    ensures second_class { unbuilt_in_spec (record { classes = a_class [] ∷ record (a_class []) { place = at 40 } ∷ [] }) ≡ Some (at 40) }
+    ensures superclass { unbuilt_in_spec (record { classes = record (a_class []) { superclasses = record { name = n; place = at 25 } ∷ [] } ∷ [] })
+        ≡ Some (at 25) }
+    ensures whole { unbuilt_in_spec (spec_over None (set_to n (sign_between (use_of n 87) Plus 89 (one 91)) 82)) ≡ None }
+    ensures nothing { unbuilt_in_spec (record { classes = [] }) ≡ None }
+{}
+
+/// The names of members and of bodies.
+pub fn bound_members()
+    ensures whole { spec_names_fault (spec_over None (set_to n (sign_between (use_of n 87) Plus 89 (one 91)) 82)) ≡ None }
+    ensures io { spec_names_fault (record { classes = record (a_class []) { name = name 0 } ∷ [] }) ≡ Some (fault_at SyntaxFault (at 7)) }
+    ensures of_the_class { spec_names_fault (spec_of (variables (variable_item (a_variable class_name 30) ∷ []) (at 9) ∷ []))
+        ≡ Some (fault_at SyntaxFault (at 30)) }
+    ensures second_variable { spec_names_fault (spec_of (variables (variable_item (a_variable n 30) ∷ variable_item (a_variable n 50) ∷ []) (at 9) ∷ []))
+        ≡ Some (fault_at SyntaxFault (at 50)) }
+    ensures of_a_variable { spec_names_fault (spec_of (variables (variable_item (a_variable n 30) ∷ []) (at 9)
+        ∷ operations (an_operation n None (call_to op 90) 60 ∷ []) (at 50) ∷ [])) ≡ Some (fault_at SyntaxFault (at 67)) }
+    ensures body_first { spec_names_fault (spec_of (operations (an_operation op None (call_to n 50) 30
+        ∷ an_operation op None (call_to op 90) 60 ∷ []) (at 9) ∷ [])) ≡ Some (fault_at UnknownName (at 50)) }
+    ensures second_operation { spec_names_fault (spec_of (operations (an_operation op None (call_to op 50) 30
+        ∷ an_operation op None (call_to n 90) 60 ∷ []) (at 9) ∷ [])) ≡ Some (fault_at SyntaxFault (at 67)) }
+    ensures target { spec_names_fault (spec_over None (set_to op (use_of class_name 87) 82)) ≡ Some (fault_at UnknownName (at 82)) }
+    ensures in_sum { spec_names_fault (spec_over None (set_to n (sign_between (use_of n 87) Plus 89 (use_of op 91)) 82)) ≡ Some (fault_at UnknownName (at 91)) }
+    ensures variable_called { spec_names_fault (spec_over None (call_to n 82)) ≡ Some (fault_at UnknownName (at 82)) }
+    ensures result_called { spec_names_fault (spec_over (Some nat_type) (in_block (call_to op 83 ∷ gives (use_of n 95) 88 ∷ []) 82))
+        ≡ Some (fault_at UnknownName (at 83)) }
+    ensures returned { spec_names_fault (spec_over (Some nat_type) (in_block (gives (use_of op 90) 83 ∷ []) 82)) ≡ Some (fault_at UnknownName (at 90)) }
+{}
+
+/// The names of the command's expression.
+pub fn bound_expressions()
+    ensures in_sum { expr_names_fault (spec_over None (call_to op 82)) (sign_between (one 1) Plus 3 (use_of n 5)) ≡ Some (fault_at UnknownName (at 5)) }
+    ensures literals { expr_names_fault (spec_over None (call_to op 82)) (sign_between (one 1) Plus 3 (one 5)) ≡ None }
+    ensures called { expr_names_fault (spec_over None (call_to op 82)) (call_of_new no_exprs) ≡ None }
+    ensures no_class { expr_names_fault (record { classes = [] }) (call_of_new no_exprs) ≡ Some (fault_at UnknownName (at 5)) }
+    ensures no_operation { expr_names_fault (spec_of []) (call_of_new no_exprs) ≡ Some (fault_at UnknownName (at 9)) }
+    ensures variable_called { expr_names_fault (spec_over None (call_to op 82)) (applied (selected (new_of no_exprs 1) n 8) no_exprs 11)
+        ≡ Some (fault_at UnknownName (at 9)) }
+{}
