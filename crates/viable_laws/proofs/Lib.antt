@@ -1,0 +1,13 @@
+pub mod Takes
+pub mod Leaves
+pub mod Instead
+pub mod Parts
+pub mod EachKind
+pub mod Primaries
+pub mod Calls
+pub mod Viable
+pub mod Items
+pub mod Definitions
+pub mod Routines
+pub mod Blocks
+pub mod Specifications
