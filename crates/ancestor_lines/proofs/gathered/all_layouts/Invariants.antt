@@ -1,0 +1,8 @@
+use Rattle.std.proofs.Common.{◌≡◌, ℕ, List, map, flat_map, reverse, take}
+use Rattle.graph_cycles.specs.Graphs.{graph_of}
+use Rattle.ancestor_lines.specs.Parts.{lists_of, list_at}
+use Rattle.ancestor_lines.proofs.gathered.all_layouts.Given as goal
+
+-- the lists so far
+abbrev pub invariant-loop-line : goal.invariant-loop-line
+invariant-loop-line l = lists_of l.found.items ≡ map (λ (line : List ℕ). flat_map (list_at (lists_of l.own)) (reverse line)) (graph_of (take l.line-index l.lines))

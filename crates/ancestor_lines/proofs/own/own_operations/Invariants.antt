@@ -1,0 +1,9 @@
+use Rattle.std.proofs.Common.{◌≡◌, map, take}
+use Rattle.vdm_tree.specs.ClassView.{class_view}
+use Rattle.class_meaning.specs.Objects.{own_operation_names}
+use Rattle.ancestor_lines.specs.Parts.{lists_of}
+use Rattle.ancestor_lines.proofs.own.own_operations.Given as goal
+
+-- the lists of the classes so far
+abbrev pub invariant-loop-class : goal.invariant-loop-class
+invariant-loop-class l = lists_of l.found.items ≡ map own_operation_names (map class_view (take l.class-index l.classes))

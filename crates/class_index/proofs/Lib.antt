@@ -1,0 +1,5 @@
+pub mod IoLemmas
+pub mod Items
+pub mod Numbering
+pub mod Placing
+pub mod Ranges

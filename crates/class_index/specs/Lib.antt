@@ -1,0 +1,6 @@
+pub mod Answers
+pub mod Calls
+pub mod Io
+pub mod Lists
+pub mod Numbers
+pub mod Places

@@ -1,0 +1,10 @@
+pub mod Numbers
+pub mod Firsts
+pub mod Walks
+pub mod Finding
+pub mod Refusals
+pub mod Ranges
+pub mod Layouts
+pub mod Agreeing
+pub mod Settled
+pub mod Ranked

@@ -1,0 +1,10 @@
+pub mod Ancestors
+pub mod Calls
+pub mod Classes
+pub mod Faults
+pub mod Found
+pub mod Laws
+pub mod Members
+pub mod Objects
+pub mod TypeGraph
+pub mod Worked
