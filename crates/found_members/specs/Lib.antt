@@ -1,0 +1,4 @@
+pub mod Agreements
+pub mod Resolved
+pub mod Rows
+pub mod Ways
