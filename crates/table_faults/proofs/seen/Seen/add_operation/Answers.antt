@@ -1,0 +1,11 @@
+use Rattle.std.proofs.Common.{nat_eq}
+use Rattle.std.specs.HashSet.{contains}
+use Rattle.table_faults.specs.Known.{same_pair}
+use Rattle.table_faults.proofs.Noting.{added_operation}
+use Rattle.table_faults.proofs.seen.Seen.add_operation.Goals as goal
+
+pub returns : goal.returns
+returns c =
+    added_operation c.args.name (contains nat_eq c.args.self.now.names) (contains nat_eq c.args.self.now.no_functions)
+    (contains nat_eq c.args.self.now.no_operations) (contains same_pair c.args.self.now.functions) (contains same_pair c.args.self.now.operations)
+    c.args.count _ _ _ c.in_ok-insert.ensures.updates.0 c.in_ok-insert-2.ensures.updates.0 c.in_ok-insert-3.ensures.updates.0

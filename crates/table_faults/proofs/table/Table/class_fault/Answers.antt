@@ -1,0 +1,5 @@
+use Rattle.table_faults.proofs.Telling.{in_any_case}
+use Rattle.table_faults.proofs.table.Table.class_fault.Goals as goal
+
+pub returns-clause-noted : goal.returns-clause-noted
+returns-clause-noted c = in_any_case c.members_fault.result c.in_ok-note.ensures.noted
