@@ -1,0 +1,4 @@
+pub mod Building
+pub mod Numbering
+pub mod Owning
+pub mod Reaching

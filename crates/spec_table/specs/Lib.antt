@@ -1,0 +1,7 @@
+pub mod Among
+pub mod Answering
+pub mod Members
+pub mod NoFault
+pub mod Ranked
+pub mod Tables
+pub mod TypeRanks
