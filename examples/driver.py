@@ -136,6 +136,10 @@ __all__ = ["BadRequest", "notation_of", "words_for"]
 MANY = 1_000_000
 # What changes a specification once it is read, by the word before its text.
 CHANGES = {"unset": "no-initial", "apart": "blocks-apart"}
+# What may stand behind the text of a request on a table of classes.
+MEMBER, MAYBE = re.compile(r"[\w']+"), re.compile(r"-|[\w']+")
+COUNT, LEVEL = re.compile(r"[0-9]+"), re.compile(r"private|protected|public")
+OPERATION = [MEMBER, MEMBER, COUNT]
 STREAMS = re.compile(r"([0-9]+) (-|[0-9,]+), ([0-9]+) ([0-9]+) (-|[0-9,]+)")
 
 
@@ -198,6 +202,50 @@ def cuts(line, asked):
     line.put(kind, word_of(text))
 
 
+# What is asked of the table of the classes of a text, and what each word of it is: a name, one or `-` for none, a number of
+# parameters, or a level of access.
+ASKED = {
+    "table": [],
+    "all-classes": [],
+    **dict.fromkeys(["ancestors", "layout", "statics", "op-names", "number", "class-place"], [MEMBER]),
+    **dict.fromkeys(["find-op", "find-fn", "op-place", "fn-place"], OPERATION),
+    **dict.fromkeys(["find-value", "find-var", "value-place", "var-place", "kind"], [MEMBER, MEMBER]),
+    "find-type": [MEMBER, MAYBE, MEMBER],
+    "visible": [MAYBE, MEMBER, LEVEL],
+    "reached": [MAYBE, *OPERATION],
+    "hosted": OPERATION,
+}
+
+
+def table(line, asked):
+    """table TEXT, all-classes TEXT, ancestors TEXT %| C, layout, statics, op-names, number and class-place likewise,
+    find-op TEXT %| C f 1, find-fn, op-place and fn-place likewise, find-value TEXT %| C v, find-var, value-place and
+    var-place likewise, find-type TEXT %| SCOPE CLASS-OR-- NAME, kind TEXT %| C A, visible TEXT %| FROM-OR-- OWNER LEVEL,
+    reached TEXT %| FROM-OR-- C f 1"""
+    [word] = line.words
+    text, *others = parts_of(asked, 1, 2)
+    line.words = ["table", word, word_of(text)]
+    put_asked(line, " ".join(others), ASKED[word])
+
+
+def hosted(line, asked):
+    """hosted TEXT %| C f 1 %| C f 1; C f 2 ..; or none behind the last sign"""
+    text, operation, others = parts_of(asked, 3, 3)
+    rows = others.split("; ") if others else []
+    line.words = ["table", "hosted", word_of(text)]
+    put_asked(line, operation, OPERATION)
+    line.put(str(len(rows)))
+    for it in rows:
+        put_asked(line, it, OPERATION)
+
+
+def put_asked(line, asked, kinds):
+    words = asked.split()
+    if len(words) != len(kinds) or not all(kind.fullmatch(it) for kind, it in zip(kinds, words)):
+        raise BadRequest(f"'{asked[:QUOTED]}' is not what this request wants behind its text")
+    line.put(*words)
+
+
 def main(line, asked):
     """main PIECE FAILS, ROOM PIECE FAILS %| SPEC %| WORD %| .., where SPEC and WORD are texts or none"""
     streams, *texts = parts_of(asked, 2, MANY)
@@ -209,7 +257,7 @@ def main(line, asked):
 
 def time(line, asked):
     """time set KIND N, time lex KIND N, time text KIND N, time operator KIND N, time bind KIND N,
-    time grammar KIND N, time statement KIND N, time specification KIND N"""
+    time grammar KIND N, time statement KIND N, time specification KIND N, time table KIND N, time look-ups KIND N"""
     line.put(*asked.split(" "))
 
 
@@ -469,6 +517,8 @@ REQUESTS = {
     **dict.fromkeys(["lex", "places", "type", "pattern", "expression", "statement"], lexed),
     **dict.fromkeys(["spec", "accepts", "specification", "classes"], text),
     "cuts": cuts,
+    **dict.fromkeys(ASKED, table),
+    "hosted": hosted,
     "main": main,
     "time": time,
     **dict.fromkeys(["order", "rising", "apart", "same", "taken", "size", "value", "part"], values),

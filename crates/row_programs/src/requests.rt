@@ -51,6 +51,7 @@ fn answer_time<R: Clock>(rt: &R, line: &mut Line<'_>) {
     match line.word() {
         "grammar" => row_grammar_times::answer_time(rt, line),
         word @ ("statement" | "specification") => row_class_times::answer_time(rt, line, word),
+        word @ ("table" | "look-ups") => row_table_times::answer_time(rt, line, word),
         "operator" => row_operator_times::answer_time(rt, line),
         "bind" => row_bindings::answer_time(rt, line),
         word => row_values::answer_time(rt, line, word),
@@ -76,7 +77,8 @@ fn answer_by(desk: &mut TreeDesk, line: &mut Line<'_>, word: &str) {
         || row_runs::answer(desk, line, word)
         || row_machines::answer(desk, line, word)
         || row_grammar::answer(&mut desk.plain.names, line, word)
-        || row_classes::answer(&mut desk.plain.names, line, word);
+        || row_classes::answer(&mut desk.plain.names, line, word)
+        || row_tables::answer(&mut desk.plain.names, line, word);
     if !is_answered {
         line.refuse();
     }
