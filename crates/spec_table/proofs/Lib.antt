@@ -1,4 +1,5 @@
 pub mod Building
+pub mod Meaning
 pub mod Numbering
 pub mod Owning
 pub mod Reaching

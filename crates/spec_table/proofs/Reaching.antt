@@ -30,7 +30,7 @@ below_right spec class owner o e = ap (descends_to spec (class_number spec class
     by None = refl
     by (Some k) = refl
 
-same_name : (a b : Name) → a.0 ≡ b.0 → a ≡ b
+pub same_name : (a b : Name) → a.0 ≡ b.0 → a ≡ b
 same_name a b e = ap (λ (n : ℕ). record { 0 = n }) e
 
 same_default : {A : Type 0} (xs : List A) (k : ℕ) (d e : A) → k < length xs → get_or xs k d ≡ get_or xs k e

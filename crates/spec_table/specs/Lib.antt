@@ -1,5 +1,6 @@
 pub mod Among
 pub mod Answering
+pub mod Meanings
 pub mod Members
 pub mod NoFault
 pub mod Ranked

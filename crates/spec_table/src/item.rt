@@ -16,7 +16,7 @@ use vdm_tree::{Block, ClassDef, FunctionDef, OpDef, ValueDef, VarDef, VariableIt
 
 /// A member of a class.
 #[derive(Clone, Copy)]
-pub(crate) enum Item<'t> {
+pub enum Item<'t> {
     TypeDef(&'t TypeDef),
     Value(&'t ValueDef),
     Variable(&'t VarDef),

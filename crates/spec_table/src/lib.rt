@@ -7,10 +7,13 @@ mod item;
 mod lines;
 mod look_ups;
 mod making;
+mod meanings;
 mod members;
 mod table;
 mod type_names;
 mod typing;
 
+pub use item::Item;
 pub use making::table_of;
+pub use meanings::{Meant, Owner};
 pub use table::ClassTable;

@@ -64,7 +64,7 @@ impl ClassTable {
     }
 
     /// What the class of a name itself answers with.
-    pub(crate) fn member(&self, class: Name, ask: Ask) -> Option<Item<'_>>
+    pub fn member(&self, class: Name, ask: Ask) -> Option<Item<'_>>
         ensures { option_map item_view result ≡ own_member (table_spec self.now) class ask }
     {
         let k = self.list.number(class)?;

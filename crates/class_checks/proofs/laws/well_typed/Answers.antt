@@ -1,0 +1,13 @@
+use Rattle.class_checks.specs.Definitions.{of_run, spec_faults}
+use Rattle.class_checks.specs.Expressions.{check}
+use Rattle.class_checks.proofs.Firsts.{none_first}
+use Rattle.class_checks.proofs.laws.well_typed.Goals as goal
+
+pub returns-clause-none : goal.returns-clause-none
+returns-clause-none c = λ spec scope e. none_first (check spec scope e).refusals
+
+pub returns-clause-main : goal.returns-clause-main
+returns-clause-main c = λ spec e. none_first (check spec of_run e).refusals
+
+pub returns-clause-specification : goal.returns-clause-specification
+returns-clause-specification c = λ spec. none_first (spec_faults spec)

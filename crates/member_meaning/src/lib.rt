@@ -1,0 +1,2 @@
+//! Definitions: the member that a name means in a class. No code.
+#![tactic(auto)]

@@ -1,0 +1,9 @@
+pub mod Again
+pub mod FormCode
+pub mod JoinedAgain
+pub mod Pending
+pub mod Plain
+pub mod Sizes
+pub mod Taking
+pub mod Tree
+pub mod TreeFalls
