@@ -7,6 +7,7 @@ ghost use Rattle.check_scopes.specs.Told.{first_in};
 use vdm_kinds::{Place, SpecFault, SpecKind};
 
 /// The refusal at the first place in text order, and there the one with the least number, of all that were refused so far.
+#[derive(Drop)]
 pub struct Refusals {
     first: Option<SpecFault>,
 }

@@ -9,6 +9,7 @@ use vdm_kinds::Name;
 pub type Locals = SharedMap<Form>;
 
 /// Where an expression stands.
+#[derive(Drop)]
 pub struct Scope {
     /// The class; the expression of a run has none.
     pub class: Option<Name>,

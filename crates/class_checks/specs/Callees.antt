@@ -50,6 +50,80 @@ callee refusals wants result = record { refusals = refusals; wants = wants; resu
 abbrev pub refused_callee : List SpecFault → Callee
 refused_callee refusals = callee refusals no_forms any_form
 
+-- ---- what members and alternatives are, as callees
+
+abbrev pub is_called : Name → Member → Bool
+is_called name (of_function f) = is_same_name name f.name
+is_called name (of_operation o) = is_same_name name o.name
+is_called name _ = false
+
+abbrev pub has_called : Name → Option ClassTree → Bool
+has_called name None = false
+has_called name (Some class) = list_any (is_called name) (class_members class)
+
+-- what an alternative has of a name
+pub data Selected : Type 0 where
+  -- it is no object and no record
+  no_member : Selected
+  -- a record without such a field
+  no_field : Selected
+  -- an object that has no such member, or none that may be named
+  refused_member : List SpecFault → Selected
+  selected : Callee → Selected
+
+abbrev pub selected_unless : List SpecFault → Callee → Selected
+selected_unless refusals found = if list_any (λ (r : SpecFault). spoils r.kind) refusals then refused_member refusals else selected found
+
+-- how a selected member is used: its value is read, or it is applied to so many arguments at a place
+pub data Use : Type 0 where
+  is_read : Use
+  -- `head_place`, the number of arguments, and the place
+  is_applied : Place → ℕ → Place → Use
+
+abbrev pub wants_joined : FormTrees → FormTrees → FormTrees
+wants_joined no_forms others = no_forms
+wants_joined (one_form form forms) no_forms = no_forms
+wants_joined (one_form form forms) (one_form other others) = one_form (joined form other) (wants_joined forms others)
+
+abbrev pub callees_joined : Option Callee → Callee → Callee
+callees_joined None found = found
+callees_joined (Some known) found = record {
+  refusals = known.refusals ++ found.refusals;
+  wants = wants_joined known.wants found.wants;
+  result = joined known.result found.result;
+}
+
+-- what some alternative has, and what is refused of the others
+pub record Selection : Type 0 where
+  pub found : Option Callee
+  pub refusals : List SpecFault
+
+abbrev pub with_selected : Selection → Selected → Selection
+with_selected known no_member = known
+with_selected known no_field = known
+with_selected known (refused_member refusals) = record { found = known.found; refusals = known.refusals ++ refusals }
+with_selected known (selected found) = record { found = Some (callees_joined known.found found); refusals = known.refusals }
+
+abbrev pub unless_refused : Place → List SpecFault → Callee
+unless_refused target_place [] = callee (refusal NoCommonValue target_place ∷ []) no_forms any_form
+unless_refused target_place (refused ∷ refusals) = refused_callee (refused ∷ refusals)
+
+-- one alternative that has the member is enough; where none is a record with the field, nor an object, the target does not fit
+abbrev pub of_selection : Place → Selection → Option Callee → Callee
+of_selection target_place known (Some found) = found
+of_selection target_place known None = unless_refused target_place known.refusals
+
+abbrev pub settled : Place → Selection → Callee
+settled target_place known = of_selection target_place known known.found
+
+abbrev pub only_selected : Selected → Callee
+only_selected (refused_member refusals) = refused_callee refusals
+only_selected (selected found) = found
+only_selected _ = refused_callee []
+
+abbrev pub refused_too : List SpecFault → Callee → Callee
+refused_too refusals found = record { refusals = refusals ++ found.refusals; wants = found.wants; result = found.result }
+
 -- ---- looking up
 
 module _ (spec : SpecTree) where
@@ -84,15 +158,6 @@ module _ (spec : SpecTree) where
   function_callee refusals owner f = callee refusals (parameter_forms owner f.parameters) (form_of spec (name_of_class spec owner) f.result_type)
 
   -- ---- a name that is unknown with so many arguments
-
-  abbrev pub is_called : Name → Member → Bool
-  is_called name (of_function f) = is_same_name name f.name
-  is_called name (of_operation o) = is_same_name name o.name
-  is_called name _ = false
-
-  abbrev pub has_called : Name → Option ClassTree → Bool
-  has_called name None = false
-  has_called name (Some class) = list_any (is_called name) (class_members class)
 
   -- whether some ancestor has a function or an operation of the name, with whatever number of parameters
   abbrev pub has_some_called : Name → ℕ → Bool
@@ -148,19 +213,6 @@ module _ (spec : SpecTree) (scope : ScopeTree) where
 
   -- ---- behind an object or a record
 
-  -- what an alternative has of a name
-  pub data Selected : Type 0 where
-    -- it is no object and no record
-    no_member : Selected
-    -- a record without such a field
-    no_field : Selected
-    -- an object that has no such member, or none that may be named
-    refused_member : List SpecFault → Selected
-    selected : Callee → Selected
-
-  abbrev pub selected_unless : List SpecFault → Callee → Selected
-  selected_unless refusals found = if list_any (λ (r : SpecFault). spoils r.kind) refusals then refused_member refusals else selected found
-
   -- functions and class values aren't reached behind an object
   abbrev pub called_member : Place → Place → ℕ → Place → ℕ → Member → Selected
   called_member name_place head_place n place owner (of_operation o) =
@@ -188,12 +240,6 @@ module _ (spec : SpecTree) (scope : ScopeTree) where
   read_of_meant name_place ambiguous = refused_member (refusal Ambiguous name_place ∷ [])
   read_of_meant name_place (meant owner member) = read_of_member name_place owner member
 
-  -- how a selected member is used: its value is read, or it is applied to so many arguments at a place
-  pub data Use : Type 0 where
-    is_read : Use
-    -- `head_place`, the number of arguments, and the place
-    is_applied : Place → ℕ → Place → Use
-
   abbrev pub in_object_class : Use → Name → Place → Option ℕ → Selected
   in_object_class way name name_place None = refused_member (refusal UnknownName name_place ∷ [])
   in_object_class is_read name name_place (Some k) = read_of_meant name_place (meaning spec (ByName name) k)
@@ -212,46 +258,10 @@ module _ (spec : SpecTree) (scope : ScopeTree) where
 
   -- ... of all alternatives together
 
-  abbrev pub wants_joined : FormTrees → FormTrees → FormTrees
-  wants_joined no_forms others = no_forms
-  wants_joined (one_form form forms) no_forms = no_forms
-  wants_joined (one_form form forms) (one_form other others) = one_form (joined form other) (wants_joined forms others)
-
-  abbrev pub callees_joined : Option Callee → Callee → Callee
-  callees_joined None found = found
-  callees_joined (Some known) found = record {
-    refusals = known.refusals ++ found.refusals;
-    wants = wants_joined known.wants found.wants;
-    result = joined known.result found.result;
-  }
-
-  -- what some alternative has, and what is refused of the others
-  pub record Selection : Type 0 where
-    pub found : Option Callee
-    pub refusals : List SpecFault
-
-  abbrev pub with_selected : Selection → Selected → Selection
-  with_selected known no_member = known
-  with_selected known no_field = known
-  with_selected known (refused_member refusals) = record { found = known.found; refusals = known.refusals ++ refusals }
-  with_selected known (selected found) = record { found = Some (callees_joined known.found found); refusals = known.refusals }
-
   abbrev pub among_alternatives : Use → Name → Place → Selection → AltTrees → Selection
   among_alternatives way name name_place known no_alts = known
   among_alternatives way name name_place known (one_alt alternative alternatives) =
       among_alternatives way name name_place (with_selected known (of_alternative way name name_place alternative)) alternatives
-
-  abbrev pub unless_refused : Place → List SpecFault → Callee
-  unless_refused target_place [] = callee (refusal NoCommonValue target_place ∷ []) no_forms any_form
-  unless_refused target_place (refused ∷ refusals) = refused_callee (refused ∷ refusals)
-
-  -- one alternative that has the member is enough; where none is a record with the field, nor an object, the target does not fit
-  abbrev pub of_selection : Place → Selection → Option Callee → Callee
-  of_selection target_place known (Some found) = found
-  of_selection target_place known None = unless_refused target_place known.refusals
-
-  abbrev pub settled : Place → Selection → Callee
-  settled target_place known = of_selection target_place known known.found
 
   abbrev pub selected_callee : Use → Place → Name → Place → FormTree → Callee
   selected_callee way target_place name name_place any_form = callee [] no_forms any_form
@@ -260,14 +270,6 @@ module _ (spec : SpecTree) (scope : ScopeTree) where
       settled target_place (among_alternatives way name name_place (record { found = None; refusals = [] }) alternatives)
 
   -- ``e.C`x``: an object of `C` is wanted, and what `x` means in `C`
-  abbrev pub only_selected : Selected → Callee
-  only_selected (refused_member refusals) = refused_callee refusals
-  only_selected (selected found) = found
-  only_selected _ = refused_callee []
-
-  abbrev pub refused_too : List SpecFault → Callee → Callee
-  refused_too refusals found = record { refusals = refusals ++ found.refusals; wants = found.wants; result = found.result }
-
   abbrev pub class_callee : Use → Place → Name → Place → Name → Place → FormTree → Option ℕ → Callee
   class_callee way target_place class class_place name name_place form None = refused_callee (refusal UnknownName class_place ∷ [])
   class_callee way target_place class class_place name name_place form (Some k) =

@@ -22,8 +22,8 @@ use Rattle.class_checks.specs.Expressions.{check, want_faults, givens}
 use Rattle.class_checks.specs.Members.{operation_faults, is_counted, uncounted}
 use Rattle.class_checks.specs.Operators.{truth}
 use Rattle.class_checks.specs.Patterns.{binds, pattern_faults}
-use Rattle.class_checks.specs.Results.{refusal, refused_if, first_among, first_fault}
-use Rattle.class_checks.specs.Scopes.{LocalForm, ScopeTree, nothing_bound, inside}
+use Rattle.class_checks.specs.Results.{refusal, refused_if, first_among, first_fault, gives}
+use Rattle.class_checks.specs.Scopes.{LocalForm, ScopeTree, nothing_bound, inside, type_scope}
 use Rattle.class_checks.specs.Statements.{check_stmt}
 use Rattle.class_checks.specs.Targets.{Returned, anything, no_value, a_value, nothing_declared}
 use Rattle.class_checks.specs.TypeNames.{form_of, type_faults}
@@ -90,8 +90,8 @@ module _ (spec : SpecTree) (class : Name) where
   -- a pattern over a value of a form: what is refused in it
   abbrev pub parameter_faults : ScopeTree → PatternTree → List SpecFault
   parameter_faults scope pattern =
-      pattern_faults spec scope pattern
-      ++ (givens spec scope pattern (record { form = no_form; refusals = []; turns = 0 })).refusals
+      pattern_faults spec (type_scope scope) pattern
+      ++ (givens spec scope pattern (gives no_form)).refusals
 
   abbrev pub all_parameter_faults : ScopeTree → List PatternTree → List SpecFault
   all_parameter_faults scope patterns = flat_map (parameter_faults scope) patterns
@@ -99,8 +99,8 @@ module _ (spec : SpecTree) (class : Name) where
   -- what the patterns bind; a pattern without a type was refused before
   abbrev pub parameters_bind : ScopeTree → List TypeTree → List PatternTree → List LocalForm
   parameters_bind scope ts [] = []
-  parameters_bind scope [] (p ∷ ps) = binds spec scope any_form p ++ parameters_bind scope [] ps
-  parameters_bind scope (t ∷ ts) (p ∷ ps) = binds spec scope (declared t) p ++ parameters_bind scope ts ps
+  parameters_bind scope [] (p ∷ ps) = binds spec (type_scope scope) any_form p ++ parameters_bind scope [] ps
+  parameters_bind scope (t ∷ ts) (p ∷ ps) = binds spec (type_scope scope) (declared t) p ++ parameters_bind scope ts ps
 
   -- ---- types
 
@@ -117,7 +117,7 @@ module _ (spec : SpecTree) (class : Name) where
   invariant_faults form None = []
   invariant_faults form (Some invariant) =
       parameter_faults (in_class class Pure) invariant.pattern
-      ++ wanted_faults (inside (in_class class Pure) (binds spec (in_class class Pure) form invariant.pattern)) truth invariant.condition
+      ++ wanted_faults (inside (in_class class Pure) (binds spec (type_scope (in_class class Pure)) form invariant.pattern)) truth invariant.condition
 
   abbrev pub type_def_faults : TypeDefTree → List SpecFault
   type_def_faults t = body_type_faults t.body ++ invariant_faults (body_form t.name t.body) t.invariant

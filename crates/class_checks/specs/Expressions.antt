@@ -128,7 +128,7 @@ use Rattle.class_checks.specs.Callees.{
 use Rattle.class_checks.specs.Members.{beyond, may_not_count, read_name, read_qualified, read_old, read_self, read_result, uncounted}
 use Rattle.class_checks.specs.Operators.{truth, number, any_set, sequence_with, map_with}
 use Rattle.class_checks.specs.Patterns.{binds, bindings_of, elements_of, pattern_faults, patterns_faults, scopes_behind, binds_each}
-use Rattle.class_checks.specs.Results.{Checked, gives, refusing, in_turn, after, after_each, refused_if, form_unless}
+use Rattle.class_checks.specs.Results.{Checked, gives, refusing, after, after_each, refused_if, form_unless}
 use Rattle.class_checks.specs.Scopes.{LocalForm, ScopeTree, inside, type_scope}
 use Rattle.class_checks.specs.Shapes.{ShapeTree, of_prefix, of_operator, of_range, of_set, of_sequence, of_map, of_tuple, of_token, of_test, of_condition, of_call, of_part, of_subsequence, of_changed, Seen, all_done, one_part}
 use Rattle.class_checks.specs.TypeNames.{is_class, form_of, meets, name_faults, type_faults, record_type, record_faults, fields_made}
@@ -203,17 +203,17 @@ module _ (spec : SpecTree) where
   -- `p : T = a`, whose value has this form
   abbrev pub definition_faults : ScopeTree → PatternTree → Option TypeTree → Place → FormTree → List SpecFault
   definition_faults scope pattern declared place form =
-      pattern_faults spec scope pattern ++ (optional_type_faults scope declared ++ optional_want_faults scope declared place form)
+      pattern_faults spec (type_scope scope) pattern ++ (optional_type_faults scope declared ++ optional_want_faults scope declared place form)
 
   abbrev pub inside_definition : ScopeTree → PatternTree → Option TypeTree → FormTree → ScopeTree
-  inside_definition scope pattern declared form = inside scope (binds spec scope (defined_form scope declared form) pattern)
+  inside_definition scope pattern declared form = inside scope (binds spec (type_scope scope) (defined_form scope declared form) pattern)
 
   -- what binds bind, behind what earlier ones did; the value of each is checked where all of them stand
   abbrev pub bound_in : ScopeTree → List LocalForm → PatternTrees → FormTree → List LocalForm
-  bound_in scope found patterns form = found ++ binds_each spec scope (elements_of spec form) patterns
+  bound_in scope found patterns form = found ++ binds_each spec (type_scope scope) (elements_of spec form) patterns
 
   abbrev pub set_faults : ScopeTree → PatternTrees → Place → FormTree → List SpecFault
-  set_faults scope patterns place form = want_faults any_set place form ++ patterns_faults spec scope patterns
+  set_faults scope patterns place form = want_faults any_set place form ++ patterns_faults spec (type_scope scope) patterns
 
   -- a call, and its arguments
   abbrev pub called_by : Callee → (ShapeTree → Checked) → Checked
@@ -236,7 +236,7 @@ module _ (spec : SpecTree) where
     check scope (current_time place) = refusing (beyond spec scope place scope.reach) (gives number)
     check scope (undefined place) = gives any_form
     check scope (result_value place) = read_result spec scope place scope.result
-    check scope (bracketed inner place) = in_turn (check scope inner)
+    check scope (bracketed inner place) = check scope inner
     -- operators
     check scope (prefixed sign operand place) =
         one_part spec (of_prefix sign) [] (check scope operand) (expr_place operand) (all_done spec (of_prefix sign))
@@ -261,10 +261,9 @@ module _ (spec : SpecTree) where
     check scope (sequence_comprehension item pattern set condition place) =
         after (check scope set) (λ (form : FormTree).
         refusing (set_faults scope (one_pattern pattern no_patterns) (expr_place set) form)
-        (givens scope pattern (in_turn
-        (where_true (inside scope (bound_in scope [] (one_pattern pattern no_patterns) form)) condition
+        (givens scope pattern (where_true (inside scope (bound_in scope [] (one_pattern pattern no_patterns) form)) condition
         (one_part spec of_sequence [] (check (inside scope (bound_in scope [] (one_pattern pattern no_patterns) form)) item) (expr_place item)
-        (all_done spec of_sequence))))))
+        (all_done spec of_sequence)))))
     -- tuples, tokens and records
     check scope (make_tuple parts place) = listed scope of_tuple [] parts
     check scope (make_token inner place) = one_part spec of_token [] (check scope inner) (expr_place inner) (all_done spec of_token)
@@ -307,12 +306,12 @@ module _ (spec : SpecTree) where
     check scope (select_part target n place) =
         one_part spec (of_part n) [] (check scope target) (expr_place target) (all_done spec (of_part n))
     -- what reaches as far to the right as it can
-    check scope (let_in definitions body place) = defined_in scope definitions (λ (within : ScopeTree). in_turn (check within body))
+    check scope (let_in definitions body place) = defined_in scope definitions (λ (within : ScopeTree). check within body)
     check scope (let_be bind condition body place) = one_bound scope [] bind (λ (found : List LocalForm) (form : FormTree).
-        where_true (inside scope found) condition (in_turn (check (inside scope found) body)))
+        where_true (inside scope found) condition (check (inside scope found) body))
     check scope (def_in pattern value body place) = after (check scope value) (λ (form : FormTree).
-        refusing (pattern_faults spec scope pattern)
-        (givens scope pattern (in_turn (in_turn (check (inside scope (binds spec scope form pattern)) body)))))
+        refusing (pattern_faults spec (type_scope scope) pattern)
+        (givens scope pattern (check (inside scope (binds spec (type_scope scope) form pattern)) body)))
     check scope (if_else condition value elseifs otherwise place) = after (check scope condition) (λ (form : FormTree).
         refusing (want_faults truth (expr_place condition) form)
         (after (check scope value) (λ (known : FormTree). branches scope known elseifs
@@ -376,14 +375,14 @@ module _ (spec : SpecTree) where
     pub one_bound : ScopeTree → List LocalForm → BindTree → (List LocalForm → FormTree → Checked) → Checked
     one_bound scope found (bind_in patterns set) rest = after (check scope set) (λ (form : FormTree).
         refusing (set_faults scope patterns (expr_place set) form)
-        (givens_each scope patterns (in_turn (rest (bound_in scope found patterns form) form))))
+        (givens_each scope patterns (rest (bound_in scope found patterns form) form)))
 
     -- each definition sees the earlier ones
     pub defined_in : ScopeTree → DefinedTrees → (ScopeTree → Checked) → Checked
     defined_in scope no_defined rest = rest scope
     defined_in scope (one_defined pattern declared value more) rest = after (check scope value) (λ (form : FormTree).
         refusing (definition_faults scope pattern declared (expr_place value) form)
-        (givens scope pattern (in_turn (defined_in (inside_definition scope pattern declared form) more rest))))
+        (givens scope pattern (defined_in (inside_definition scope pattern declared form) more rest)))
 
     pub branches : ScopeTree → FormTree → BranchTrees → (FormTree → Checked) → Checked
     branches scope known no_branches rest = rest known
@@ -398,12 +397,11 @@ module _ (spec : SpecTree) where
     -- What stands behind several patterns is checked for each, with what that one binds.
     pub cases_in : ScopeTree → FormTree → FormTree → CaseTrees → (FormTree → Checked) → Checked
     cases_in scope form known no_cases rest = rest known
-    cases_in scope form known (one_case patterns body more) rest = refusing (patterns_faults spec scope patterns)
-        (givens_each scope patterns (in_turn
-        (after_each known
-        (map (λ (within : ScopeTree). check within body) (scopes_behind spec scope (bindings_of spec scope form patterns)))
+    cases_in scope form known (one_case patterns body more) rest = refusing (patterns_faults spec (type_scope scope) patterns)
+        (givens_each scope patterns (after_each known
+        (map (λ (within : ScopeTree). check within body) (scopes_behind scope (bindings_of spec (type_scope scope) form patterns)))
         joined
-        (λ (all : FormTree). cases_in scope form all more rest))))
+        (λ (all : FormTree). cases_in scope form all more rest)))
 
     -- the expressions in brackets in a pattern, which stand where the pattern does, and then the rest
     pub givens : ScopeTree → PatternTree → Checked → Checked

@@ -28,7 +28,7 @@ use Rattle.pattern_meaning.specs.RecordTypes.{RecordType}
 use Rattle.form_meaning.specs.Forms.{FormTree, any_form, no_form, AltTree, tuple_alt, record_alt, FormTrees, no_forms, one_form, form_count, only}
 use Rattle.form_meaning.specs.Parts.{element, item, key, value, form_at, taken}
 use Rattle.class_checks.specs.Operators.{any_set, any_sequence, any_map, sequence_with}
-use Rattle.class_checks.specs.Scopes.{LocalForm, ScopeTree, inside, type_scope}
+use Rattle.class_checks.specs.Scopes.{LocalForm, ScopeTree, inside}
 use Rattle.class_checks.specs.TypeNames.{form_of, opened, meets, record_type, fields_made, record_faults}
 
 abbrev pub pattern_count : PatternTrees → ℕ
@@ -47,6 +47,34 @@ any_parts (suc n) = one_form any_form (any_parts n)
 
 abbrev pub tuple_of : ℕ → FormTree
 tuple_of n = only (tuple_alt (any_parts n))
+
+-- ---- lists of forms and of bindings
+
+abbrev pub first_form : List FormTree → FormTree
+first_form [] = any_form
+first_form (form ∷ forms) = form
+
+abbrev pub later_forms : List FormTree → List FormTree
+later_forms [] = []
+later_forms (form ∷ forms) = forms
+
+abbrev pub with_each : ScopeTree → List (List LocalForm) → List ScopeTree
+with_each scope [] = []
+with_each scope ([] ∷ others) = with_each scope others
+with_each scope ((found ∷ more) ∷ others) = inside scope (found ∷ more) ∷ with_each scope others
+
+abbrev pub scope_if : Bool → ScopeTree → List ScopeTree
+scope_if true scope = scope ∷ []
+scope_if false scope = []
+
+abbrev pub some_empty : List (List LocalForm) → Bool
+some_empty [] = false
+some_empty ([] ∷ others) = true
+some_empty ((found ∷ more) ∷ others) = some_empty others
+
+-- The scopes in which what stands behind several patterns is checked: one for all that bind nothing, and one for each other.
+abbrev pub scopes_behind : ScopeTree → List (List LocalForm) → List ScopeTree
+scopes_behind scope bindings = scope_if (some_empty bindings) scope ++ with_each scope bindings
 
 module _ (spec : SpecTree) where
   -- the parts of what is matched, where some of it fits; where nothing does they may have any form
@@ -75,100 +103,74 @@ module _ (spec : SpecTree) where
       fields_if (meets spec form (only (record_alt made.class made.name))) (fields_made spec (Some made)) made.class
 
   -- the forms of the fields of a record pattern; what no field stands for may have any form
-  abbrev pub record_parts : ScopeTree → FormTree → TypeName → List FormTree
-  record_parts scope form t = made_fields form (record_type spec (type_scope scope) t)
+  abbrev pub record_parts : Name → FormTree → TypeName → List FormTree
+  record_parts class form t = made_fields form (record_type spec class t)
 
   -- ---- what is bound, in text order
 
-  abbrev pub first_form : List FormTree → FormTree
-  first_form [] = any_form
-  first_form (form ∷ forms) = form
-
-  abbrev pub later_forms : List FormTree → List FormTree
-  later_forms [] = []
-  later_forms (form ∷ forms) = forms
-
   abbrev mutual
-    pub binds : ScopeTree → FormTree → PatternTree → List LocalForm
-    binds scope form (any_value place) = []
-    binds scope form (bound name place) = record { name = name; form = form } ∷ []
-    binds scope form (literal_pattern value place) = []
-    binds scope form (equal_to inner place) = []
-    binds scope form (set_pattern elements place) = binds_each scope (elements_of form) elements
-    binds scope form (sequence_pattern items place) = binds_each scope (items_of form) items
-    binds scope form (map_pattern maplets place) = binds_maplets scope (parts_of any_map key form) (parts_of any_map value form) maplets
-    binds scope form (empty_map_pattern place) = []
-    binds scope form (tuple_pattern parts place) = binds_parts scope form (pattern_count parts) 0 parts
-    binds scope form (record_pattern t fields place) = binds_fields scope (record_parts scope form t) fields
-    binds scope form (concatenation_pattern parts place) = binds_each scope (sequence_with (items_of form)) parts
+    pub binds : Name → FormTree → PatternTree → List LocalForm
+    binds class form (any_value place) = []
+    binds class form (bound name place) = record { name = name; form = form } ∷ []
+    binds class form (literal_pattern value place) = []
+    binds class form (equal_to inner place) = []
+    binds class form (set_pattern elements place) = binds_each class (elements_of form) elements
+    binds class form (sequence_pattern items place) = binds_each class (items_of form) items
+    binds class form (map_pattern maplets place) = binds_maplets class (parts_of any_map key form) (parts_of any_map value form) maplets
+    binds class form (empty_map_pattern place) = []
+    binds class form (tuple_pattern parts place) = binds_parts class form (pattern_count parts) 0 parts
+    binds class form (record_pattern t fields place) = binds_fields class (record_parts class form t) fields
+    binds class form (concatenation_pattern parts place) = binds_each class (sequence_with (items_of form)) parts
 
     -- all of them of one form
-    pub binds_each : ScopeTree → FormTree → PatternTrees → List LocalForm
-    binds_each scope form no_patterns = []
-    binds_each scope form (one_pattern p ps) = binds scope form p ++ binds_each scope form ps
+    pub binds_each : Name → FormTree → PatternTrees → List LocalForm
+    binds_each class form no_patterns = []
+    binds_each class form (one_pattern p ps) = binds class form p ++ binds_each class form ps
 
-    pub binds_maplets : ScopeTree → FormTree → FormTree → MapletPatterns → List LocalForm
-    binds_maplets scope keys values no_maplet_patterns = []
-    binds_maplets scope keys values (one_maplet_pattern p q rest) =
-        binds scope keys p ++ (binds scope values q ++ binds_maplets scope keys values rest)
+    pub binds_maplets : Name → FormTree → FormTree → MapletPatterns → List LocalForm
+    binds_maplets class keys values no_maplet_patterns = []
+    binds_maplets class keys values (one_maplet_pattern p q rest) =
+        binds class keys p ++ (binds class values q ++ binds_maplets class keys values rest)
 
     -- the parts of a tuple of so many, behind so many others
-    pub binds_parts : ScopeTree → FormTree → ℕ → ℕ → PatternTrees → List LocalForm
-    binds_parts scope form n i no_patterns = []
-    binds_parts scope form n i (one_pattern p ps) =
-        binds scope (parts_of (tuple_of n) (part_of_length n i) form) p ++ binds_parts scope form n (suc i) ps
+    pub binds_parts : Name → FormTree → ℕ → ℕ → PatternTrees → List LocalForm
+    binds_parts class form n i no_patterns = []
+    binds_parts class form n i (one_pattern p ps) =
+        binds class (parts_of (tuple_of n) (part_of_length n i) form) p ++ binds_parts class form n (suc i) ps
 
     -- each of its own form
-    pub binds_fields : ScopeTree → List FormTree → PatternTrees → List LocalForm
-    binds_fields scope forms no_patterns = []
-    binds_fields scope forms (one_pattern p ps) = binds scope (first_form forms) p ++ binds_fields scope (later_forms forms) ps
+    pub binds_fields : Name → List FormTree → PatternTrees → List LocalForm
+    binds_fields class forms no_patterns = []
+    binds_fields class forms (one_pattern p ps) = binds class (first_form forms) p ++ binds_fields class (later_forms forms) ps
 
   -- ---- what is refused of the names of records
 
   abbrev mutual
-    pub pattern_faults : ScopeTree → PatternTree → List SpecFault
-    pattern_faults scope (any_value place) = []
-    pattern_faults scope (bound name place) = []
-    pattern_faults scope (literal_pattern value place) = []
-    pattern_faults scope (equal_to inner place) = []
-    pattern_faults scope (set_pattern elements place) = patterns_faults scope elements
-    pattern_faults scope (sequence_pattern items place) = patterns_faults scope items
-    pattern_faults scope (map_pattern maplets place) = maplets_faults scope maplets
-    pattern_faults scope (empty_map_pattern place) = []
-    pattern_faults scope (tuple_pattern parts place) = patterns_faults scope parts
-    pattern_faults scope (record_pattern t fields place) =
-        record_faults spec (type_scope scope) t (pattern_count fields) place ++ patterns_faults scope fields
-    pattern_faults scope (concatenation_pattern parts place) = patterns_faults scope parts
+    pub pattern_faults : Name → PatternTree → List SpecFault
+    pattern_faults class (any_value place) = []
+    pattern_faults class (bound name place) = []
+    pattern_faults class (literal_pattern value place) = []
+    pattern_faults class (equal_to inner place) = []
+    pattern_faults class (set_pattern elements place) = patterns_faults class elements
+    pattern_faults class (sequence_pattern items place) = patterns_faults class items
+    pattern_faults class (map_pattern maplets place) = maplets_faults class maplets
+    pattern_faults class (empty_map_pattern place) = []
+    pattern_faults class (tuple_pattern parts place) = patterns_faults class parts
+    pattern_faults class (record_pattern t fields place) =
+        record_faults spec class t (pattern_count fields) place ++ patterns_faults class fields
+    pattern_faults class (concatenation_pattern parts place) = patterns_faults class parts
 
-    pub patterns_faults : ScopeTree → PatternTrees → List SpecFault
-    patterns_faults scope no_patterns = []
-    patterns_faults scope (one_pattern p ps) = pattern_faults scope p ++ patterns_faults scope ps
+    pub patterns_faults : Name → PatternTrees → List SpecFault
+    patterns_faults class no_patterns = []
+    patterns_faults class (one_pattern p ps) = pattern_faults class p ++ patterns_faults class ps
 
-    pub maplets_faults : ScopeTree → MapletPatterns → List SpecFault
-    maplets_faults scope no_maplet_patterns = []
-    maplets_faults scope (one_maplet_pattern p q rest) = pattern_faults scope p ++ (pattern_faults scope q ++ maplets_faults scope rest)
+    pub maplets_faults : Name → MapletPatterns → List SpecFault
+    maplets_faults class no_maplet_patterns = []
+    maplets_faults class (one_maplet_pattern p q rest) = pattern_faults class p ++ (pattern_faults class q ++ maplets_faults class rest)
 
   -- ---- several patterns for one value
 
   -- what each binds, where it binds something
-  abbrev pub bindings_of : ScopeTree → FormTree → PatternTrees → List (List LocalForm)
-  bindings_of scope form no_patterns = []
-  bindings_of scope form (one_pattern p ps) = binds scope form p ∷ bindings_of scope form ps
-
-  abbrev pub with_each : ScopeTree → List (List LocalForm) → List ScopeTree
-  with_each scope [] = []
-  with_each scope ([] ∷ others) = with_each scope others
-  with_each scope ((found ∷ more) ∷ others) = inside scope (found ∷ more) ∷ with_each scope others
-
-  abbrev pub scope_if : Bool → ScopeTree → List ScopeTree
-  scope_if true scope = scope ∷ []
-  scope_if false scope = []
-
-  abbrev pub some_empty : List (List LocalForm) → Bool
-  some_empty [] = false
-  some_empty ([] ∷ others) = true
-  some_empty ((found ∷ more) ∷ others) = some_empty others
-
-  -- The scopes in which what stands behind several patterns is checked: one for all that bind nothing, and one for each other.
-  abbrev pub scopes_behind : ScopeTree → List (List LocalForm) → List ScopeTree
-  scopes_behind scope bindings = scope_if (some_empty bindings) scope ++ with_each scope bindings
+  abbrev pub bindings_of : Name → FormTree → PatternTrees → List (List LocalForm)
+  bindings_of class form no_patterns = []
+  bindings_of class form (one_pattern p ps) = binds class form p ∷ bindings_of class form ps

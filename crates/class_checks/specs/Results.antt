@@ -1,5 +1,5 @@
 -- What a check gives: the form of what was checked, and all that is refused in it.
-use Rattle.std.specs.Prelude.{ℕ, suc, ◌+◌, Bool, true, false, nat_eq, nat_lt, if◌then◌else◌, List, [], ◌∷◌, ◌++◌, Option, Some, None}
+use Rattle.std.specs.Prelude.{Bool, true, false, nat_eq, nat_lt, if◌then◌else◌, List, [], ◌∷◌, ◌++◌, Option, Some, None}
 use Rattle.std.specs.List.{list_any}
 use Rattle.vdm_kinds.specs.SpecKinds.{spec_number}
 use Rattle.vdm_kinds.specs.declared.place.Place.{Place}
@@ -8,11 +8,9 @@ use Rattle.vdm_kinds.specs.declared.spec_kind.SpecKind.{SpecKind}
 use Rattle.vdm_kinds.specs.declared.spec_kind.SpecKind.TheVariants.{LeftOut, UnknownName, Ambiguous, NotVisible, WrongArity}
 use Rattle.form_meaning.specs.Forms.{FormTree, any_form}
 
--- `turns` counts the parts that were gone through; no answer depends on it
 pub record Checked : Type 0 where
   pub form : FormTree
   pub refusals : List SpecFault
-  pub turns : ℕ
 
 abbrev pub refusal : SpecKind → Place → SpecFault
 refusal kind place = record { kind = kind; place = place }
@@ -24,25 +22,15 @@ refused_if refused kind place = if refused then refusal kind place ∷ [] else [
 
 -- a node without parts that are checked
 abbrev pub gives : FormTree → Checked
-gives form = record { form = form; refusals = []; turns = 1 }
+gives form = record { form = form; refusals = [] }
 
 -- what is refused here, and then the rest
 abbrev pub refusing : List SpecFault → Checked → Checked
-refusing refusals rest = record { form = rest.form; refusals = refusals ++ rest.refusals; turns = rest.turns }
+refusing refusals rest = record { form = rest.form; refusals = refusals ++ rest.refusals }
 
 -- a part, and then what follows from its form
-abbrev pub behind : Checked → (FormTree → Checked) → Checked
-behind part next = record {
-  form = (next part.form).form;
-  refusals = part.refusals ++ (next part.form).refusals;
-  turns = suc (part.turns + (next part.form).turns);
-}
-
-abbrev pub in_turn : Checked → Checked
-in_turn rest = record { form = rest.form; refusals = rest.refusals; turns = suc rest.turns }
-
-abbrev pub after : Checked → (FormTree → Checked) → Checked
-after part next = in_turn (behind part next)
+unfoldable pub after : Checked → (FormTree → Checked) → Checked
+after part next = record { form = (next part.form).form; refusals = part.refusals ++ (next part.form).refusals }
 
 -- several ways through one text, of which each adds to the form
 abbrev pub after_each : FormTree → List Checked → (FormTree → FormTree → FormTree) → (FormTree → Checked) → Checked

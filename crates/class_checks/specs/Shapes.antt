@@ -106,6 +106,64 @@ any_or_some test any_form = true
 any_or_some test no_form = false
 any_or_some test (one_of alternatives) = some_alt test alternatives
 
+-- ---- parts that were seen
+
+abbrev pub field_or_none : Option FormTree → FormTree
+field_or_none None = no_form
+field_or_none (Some form) = form
+
+abbrev pub name_behind : ℕ → List Name → Option Name
+name_behind n [] = None
+name_behind zero (name ∷ names) = Some name
+name_behind (suc n) (name ∷ names) = name_behind n names
+
+abbrev pub operand_want : Sign → ℕ → FormTree
+operand_want sign zero = left_want sign
+operand_want sign (suc n) = right_want sign
+
+abbrev pub subsequence_want : ℕ → FormTree
+subsequence_want zero = any_sequence
+subsequence_want (suc n) = number
+
+abbrev pub all_seen : FormTree → List Seen → FormTree
+all_seen form [] = form
+all_seen form (seen ∷ others) = all_seen (joined form seen.form) others
+
+-- the parts of an empty enumeration may have any form
+abbrev pub parts_seen : List Seen → FormTree
+parts_seen [] = any_form
+parts_seen (seen ∷ others) = all_seen seen.form others
+
+abbrev pub every_other : List Seen → List Seen
+every_other [] = []
+every_other (seen ∷ []) = seen ∷ []
+every_other (seen ∷ other ∷ others) = seen ∷ every_other others
+
+abbrev pub all_but_first : List Seen → List Seen
+all_but_first [] = []
+all_but_first (seen ∷ others) = others
+
+abbrev pub forms_seen : List Seen → FormTrees
+forms_seen [] = no_forms
+forms_seen (seen ∷ others) = one_form seen.form (forms_seen others)
+
+abbrev pub unfit : (ℕ → Bool) → ℕ → List Seen → Bool
+unfit takes i [] = false
+unfit takes i (seen ∷ others) = (takes i && not seen.fits) || unfit takes (suc i) others
+
+-- the form is taken from parts: where one of these did not fit, it may be any
+abbrev pub unless_unfit : (ℕ → Bool) → List Seen → FormTree → FormTree
+unless_unfit takes done form = if unfit takes 0 done then any_form else form
+
+abbrev pub takes_first : ℕ → Bool
+takes_first zero = true
+takes_first (suc i) = false
+
+abbrev pub seen_at : ℕ → List Seen → FormTree
+seen_at n [] = any_form
+seen_at zero (seen ∷ others) = seen.form
+seen_at (suc n) (seen ∷ others) = seen_at n others
+
 module _ (spec : SpecTree) where
   abbrev pub has_field : Name → Name → Name → Bool
   has_field class name field = is_some (field_form spec class name field)
@@ -121,10 +179,6 @@ module _ (spec : SpecTree) where
 
   -- ---- records that are changed
 
-  abbrev pub field_or_none : Option FormTree → FormTree
-  field_or_none None = no_form
-  field_or_none (Some form) = form
-
   -- the form of a field in an alternative that has all that are changed
   abbrev pub changed_field : List Name → Name → AltTree → FormTree
   changed_field fields field (record_alt class name) =
@@ -139,24 +193,11 @@ module _ (spec : SpecTree) where
   field_want fields None target = any_form
   field_want fields (Some field) target = if target.fits then taken (changed_field fields field) target.form else any_form
 
-  abbrev pub name_behind : ℕ → List Name → Option Name
-  name_behind n [] = None
-  name_behind zero (name ∷ names) = Some name
-  name_behind (suc n) (name ∷ names) = name_behind n names
-
   abbrev pub changed_want : List Name → List Seen → Want
   changed_want fields [] = with_all fields
   changed_want fields (target ∷ values) = like (field_want fields (name_behind (length values) fields) target)
 
   -- ---- by shape
-
-  abbrev pub operand_want : Sign → ℕ → FormTree
-  operand_want sign zero = left_want sign
-  operand_want sign (suc n) = right_want sign
-
-  abbrev pub subsequence_want : ℕ → FormTree
-  subsequence_want zero = any_sequence
-  subsequence_want (suc n) = number
 
   -- what the next part has to meet
   abbrev pub want_of : ShapeTree → List Seen → Want
@@ -171,45 +212,6 @@ module _ (spec : SpecTree) where
   want_of _ done = like any_form
 
   -- ---- the form that follows
-
-  abbrev pub all_seen : FormTree → List Seen → FormTree
-  all_seen form [] = form
-  all_seen form (seen ∷ others) = all_seen (joined form seen.form) others
-
-  -- the parts of an empty enumeration may have any form
-  abbrev pub parts_seen : List Seen → FormTree
-  parts_seen [] = any_form
-  parts_seen (seen ∷ others) = all_seen seen.form others
-
-  abbrev pub every_other : List Seen → List Seen
-  every_other [] = []
-  every_other (seen ∷ []) = seen ∷ []
-  every_other (seen ∷ other ∷ others) = seen ∷ every_other others
-
-  abbrev pub all_but_first : List Seen → List Seen
-  all_but_first [] = []
-  all_but_first (seen ∷ others) = others
-
-  abbrev pub forms_seen : List Seen → FormTrees
-  forms_seen [] = no_forms
-  forms_seen (seen ∷ others) = one_form seen.form (forms_seen others)
-
-  abbrev pub unfit : (ℕ → Bool) → ℕ → List Seen → Bool
-  unfit takes i [] = false
-  unfit takes i (seen ∷ others) = (takes i && not seen.fits) || unfit takes (suc i) others
-
-  -- the form is taken from parts: where one of these did not fit, it may be any
-  abbrev pub unless_unfit : (ℕ → Bool) → List Seen → FormTree → FormTree
-  unless_unfit takes done form = if unfit takes 0 done then any_form else form
-
-  abbrev pub takes_first : ℕ → Bool
-  takes_first zero = true
-  takes_first (suc i) = false
-
-  abbrev pub seen_at : ℕ → List Seen → FormTree
-  seen_at n [] = any_form
-  seen_at zero (seen ∷ others) = seen.form
-  seen_at (suc n) (seen ∷ others) = seen_at n others
 
   abbrev pub finished : ShapeTree → List Seen → FormTree
   finished (of_prefix sign) done = unless_unfit (takes_from sign) done (gives_of_one spec sign (seen_at 0 done))

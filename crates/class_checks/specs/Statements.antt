@@ -22,7 +22,7 @@ use Rattle.class_checks.specs.Expressions.{
 }
 use Rattle.class_checks.specs.Operators.{truth, number, any_set, any_sequence}
 use Rattle.class_checks.specs.Patterns.{binds, bindings_of, items_of, pattern_faults, patterns_faults, scopes_behind}
-use Rattle.class_checks.specs.Results.{Checked, gives, refused_if, refusing, in_turn, after, after_each}
+use Rattle.class_checks.specs.Results.{Checked, gives, refused_if, refusing, after, after_each}
 use Rattle.class_checks.specs.Scopes.{LocalForm, ScopeTree, inside, type_scope}
 use Rattle.class_checks.specs.Shapes.{any_or_some}
 use Rattle.class_checks.specs.Targets.{
@@ -113,7 +113,7 @@ module _ (spec : SpecTree) where
 
   -- a pattern over a value of a form
   abbrev pub inside_pattern : StmtScope → FormTree → PatternTree → StmtScope
-  inside_pattern scope form pattern = inside_names scope (binds spec scope.within form pattern) (pattern_names pattern)
+  inside_pattern scope form pattern = inside_names scope (binds spec (type_scope scope.within) form pattern) (pattern_names pattern)
 
   abbrev pub one_of_patterns : PatternTree → PatternTrees
   one_of_patterns p = one_pattern p no_patterns
@@ -137,36 +137,35 @@ module _ (spec : SpecTree) where
     check_stmt scope (exits None place) = done
     check_stmt scope (exits (Some e) place) = after (check spec scope.within e) (λ (form : FormTree). done)
     check_stmt scope (let_then definitions body place) = defined_in spec scope.within definitions
-        (λ (within : ScopeTree). in_turn (check_stmt (moved scope within (defined_names definitions)) body))
+        (λ (within : ScopeTree). check_stmt (moved scope within (defined_names definitions)) body)
     check_stmt scope (let_be_then bind condition body place) =
         one_bound spec scope.within [] bind (λ (found : List LocalForm) (form : FormTree).
         where_true spec (inside scope.within found) (maybe_of condition)
-        (in_turn (check_stmt (inside_names scope found (bind_names bind)) body)))
+        (check_stmt (inside_names scope found (bind_names bind)) body))
     check_stmt scope (def_then pattern value body place) = after (check spec scope.within value) (λ (form : FormTree).
-        refusing (pattern_faults spec scope.within pattern)
-        (givens spec scope.within pattern (in_turn (check_stmt (inside_pattern scope form pattern) body))))
+        refusing (pattern_faults spec (type_scope scope.within) pattern)
+        (givens spec scope.within pattern (check_stmt (inside_pattern scope form pattern) body)))
     check_stmt scope (if_then condition body elseifs otherwise place) =
         wanting scope truth condition (after (check_stmt scope body) (λ (form : FormTree).
         stmt_branches scope elseifs (after (check_maybe scope otherwise) (λ (last : FormTree). done))))
     check_stmt scope (cases_then subject alternatives others place) = after (check spec scope.within subject) (λ (form : FormTree).
         stmt_cases scope form alternatives (after (check_maybe scope others) (λ (last : FormTree). done)))
-    check_stmt scope (while_do condition body place) = wanting scope truth condition (in_turn (check_stmt scope body))
+    check_stmt scope (while_do condition body place) = wanting scope truth condition (check_stmt scope body)
     check_stmt scope (for_numbers name name_place first last step body place) =
         wanting scope number first (wanting scope number last (maybe_wanting scope number step
-        (in_turn (check_stmt (inside_names scope (record { name = name; form = number } ∷ []) (name ∷ [])) body))))
+        (check_stmt (inside_names scope (record { name = name; form = number } ∷ []) (name ∷ [])) body)))
     check_stmt scope (for_set pattern set body place) = after (check spec scope.within set) (λ (form : FormTree).
         refusing (set_faults spec scope.within (one_of_patterns pattern) (expr_place set) form)
-        (givens spec scope.within pattern (in_turn
-        (check_stmt (inside_names scope (bound_in spec scope.within [] (one_of_patterns pattern) form) (pattern_names pattern)) body))))
+        (givens spec scope.within pattern (check_stmt (inside_names scope (bound_in spec scope.within [] (one_of_patterns pattern) form) (pattern_names pattern)) body)))
     check_stmt scope (for_sequence pattern sequence body place) = after (check spec scope.within sequence) (λ (form : FormTree).
-        refusing (want_faults spec any_sequence (expr_place sequence) form ++ pattern_faults spec scope.within pattern)
-        (givens spec scope.within pattern (in_turn (check_stmt (inside_pattern scope (items_of spec form) pattern) body))))
+        refusing (want_faults spec any_sequence (expr_place sequence) form ++ pattern_faults spec (type_scope scope.within) pattern)
+        (givens spec scope.within pattern (check_stmt (inside_pattern scope (items_of spec form) pattern) body)))
     -- what is caught may have any form
-    check_stmt scope (trap_exit pattern handler body place) = refusing (pattern_faults spec scope.within pattern)
+    check_stmt scope (trap_exit pattern handler body place) = refusing (pattern_faults spec (type_scope scope.within) pattern)
         (givens spec scope.within pattern
-        (after (check_stmt (inside_pattern scope any_form pattern) handler) (λ (form : FormTree). in_turn (check_stmt scope body))))
-    check_stmt scope (trap_exits handlers body place) = handlers_in scope handlers (in_turn (check_stmt scope body))
-    check_stmt scope (always_after last body place) = after (check_stmt scope last) (λ (form : FormTree). in_turn (check_stmt scope body))
+        (after (check_stmt (inside_pattern scope any_form pattern) handler) (λ (form : FormTree). check_stmt scope body)))
+    check_stmt scope (trap_exits handlers body place) = handlers_in scope handlers (check_stmt scope body)
+    check_stmt scope (always_after last body place) = after (check_stmt scope last) (λ (form : FormTree). check_stmt scope body)
     check_stmt scope (in_parallel statements place) = check_stmts scope statements
     check_stmt scope (start_thread object place) = after (check spec scope.within object) (λ (form : FormTree).
         refusing (refused_if (not (any_or_some is_object form)) NoCommonValue (expr_place object)) done)
@@ -180,7 +179,7 @@ module _ (spec : SpecTree) where
 
     pub check_maybe : StmtScope → MaybeStmt → Checked
     check_maybe scope no_stmt = done
-    check_maybe scope (given_stmt s) = in_turn (check_stmt scope s)
+    check_maybe scope (given_stmt s) = check_stmt scope s
 
     pub stmt_branches : StmtScope → StmtBranches → Checked → Checked
     stmt_branches scope no_stmt_branches rest = rest
@@ -190,16 +189,15 @@ module _ (spec : SpecTree) where
     -- what stands behind several patterns is checked for each, with what that one binds
     pub stmt_cases : StmtScope → FormTree → StmtCases → Checked → Checked
     stmt_cases scope form no_stmt_cases rest = rest
-    stmt_cases scope form (one_stmt_case patterns body more) rest = refusing (patterns_faults spec scope.within patterns)
-        (givens_each spec scope.within patterns (in_turn
-        (after_each no_form
+    stmt_cases scope form (one_stmt_case patterns body more) rest = refusing (patterns_faults spec (type_scope scope.within) patterns)
+        (givens_each spec scope.within patterns (after_each no_form
         (map (λ (within : ScopeTree). check_stmt (moved scope within (patterns_names patterns)) body)
-        (scopes_behind spec scope.within (bindings_of spec scope.within form patterns)))
+        (scopes_behind scope.within (bindings_of spec (type_scope scope.within) form patterns)))
         (λ (known other : FormTree). known)
-        (λ (all : FormTree). stmt_cases scope form more rest))))
+        (λ (all : FormTree). stmt_cases scope form more rest)))
 
     pub handlers_in : StmtScope → HandlerTrees → Checked → Checked
     handlers_in scope no_handlers rest = rest
-    handlers_in scope (one_handler pattern body more) rest = refusing (pattern_faults spec scope.within pattern)
+    handlers_in scope (one_handler pattern body more) rest = refusing (pattern_faults spec (type_scope scope.within) pattern)
         (givens spec scope.within pattern
         (after (check_stmt (inside_pattern scope any_form pattern) body) (λ (form : FormTree). handlers_in scope more rest)))

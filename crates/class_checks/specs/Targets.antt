@@ -162,7 +162,7 @@ module _ (spec : SpecTree) (scope : StmtScope) where
   has_this_field name _ = false
 
   abbrev pub field_taken : Name → AltTree → FormTree
-  field_taken name (record_alt class record_name) = field_or_none spec (field_form spec class record_name name)
+  field_taken name (record_alt class record_name) = field_or_none (field_form spec class record_name name)
   field_taken name _ = no_form
 
   abbrev pub stepped : Bool → FormTree → FormTree

@@ -1,7 +1,6 @@
 -- The names of types: which a place sees, what is refused of the others, and which record a name makes.
 use Rattle.std.specs.Prelude.{ℕ, Bool, false, not, nat_eq, if◌then◌else◌, is_some, List, [], ◌∷◌, ◌++◌, Option, Some, None, option_map, length}
 use Rattle.std.specs.List.{list_all, find}
-use Rattle.std.specs.Option.{option_and_then}
 use Rattle.vdm_kinds.specs.declared.name.Name.{Name}
 use Rattle.vdm_kinds.specs.declared.name_at.TypeName.{TypeName}
 use Rattle.vdm_kinds.specs.declared.place.Place.{Place}
@@ -29,12 +28,11 @@ use Rattle.abstract_syntax.specs.Classes.{FieldTree, TypeBody, same_as, with_fie
 use Rattle.class_meaning.specs.Calls.{is_visible}
 use Rattle.class_meaning.specs.Classes.{classes, class_names, class_number}
 use Rattle.class_meaning.specs.Ancestors.{is_ancestor}
-use Rattle.class_meaning.specs.Found.{found, own_in, type_named, type_of}
+use Rattle.class_meaning.specs.Found.{type_named, type_of}
 use Rattle.class_meaning.specs.Laws.{type_rank}
 use Rattle.class_meaning.specs.TypeGraph.{types_in}
 use Rattle.class_meaning.specs.declared.ask.Ask.TheVariants.{AsType}
-use Rattle.class_meaning.specs.declared.found.Found.{Found}
-use Rattle.class_meaning.specs.declared.found.Found.TheVariants.{Nothing, One, Several}
+use Rattle.member_meaning.specs.Meaning.{Meant, unknown, ambiguous, meant, meaning}
 use Rattle.expr_tree.specs.Alternatives.{Finder}
 use Rattle.pattern_meaning.specs.RecordTypes.{RecordType, stands_for}
 use Rattle.form_meaning.specs.Forms.{FormTree}
@@ -107,14 +105,14 @@ module _ (spec : SpecTree) (from : Option ℕ) (t : TypeName) (place : Place) wh
   definition_faults owner None = refusal UnknownName t.name_place ∷ []
   definition_faults owner (Some d) = refused_if (not (is_visible spec from owner d.access.level)) NotVisible t.name_place
 
-  abbrev pub found_faults : Bool → Found → List SpecFault
-  found_faults or_class Nothing = refused_if (not or_class) UnknownName t.name_place
-  found_faults or_class Several = refusal Ambiguous t.name_place ∷ []
-  found_faults or_class (One owner) = definition_faults owner (option_and_then type_of (own_in spec (AsType t.name) owner))
+  abbrev pub meant_faults : Bool → Meant → List SpecFault
+  meant_faults or_class unknown = refused_if (not or_class) UnknownName t.name_place
+  meant_faults or_class ambiguous = refusal Ambiguous t.name_place ∷ []
+  meant_faults or_class (meant owner member) = definition_faults owner (type_of member)
 
   abbrev pub in_class_faults : Bool → Option ℕ → List SpecFault
   in_class_faults or_class None = refusal UnknownName place ∷ []
-  in_class_faults or_class (Some k) = found_faults or_class (found spec (AsType t.name) k)
+  in_class_faults or_class (Some k) = meant_faults or_class (meaning spec (AsType t.name) k)
 
 -- A name is a type that is found in the class, or behind the class before its backquote; else, alone, a class.
 abbrev pub name_faults_behind : SpecTree → Name → TypeName → Place → Option Name → List SpecFault

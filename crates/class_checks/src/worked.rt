@@ -17,7 +17,7 @@ ghost use Rattle.class_checks.specs.Worked.{at, nothing, refused, reaching, whol
 ghost use Rattle.class_checks.specs.declared.reach.Reach.TheVariants.{Free, Init, Pure, Guard, Inv};
 
 /// Operands that no value fits, told at the operand; and of two refusals the first in the text.
-#[tactic(auto, unfolding(crate::specs::Expressions::check, crate::specs::Expressions::listed, crate::specs::Expressions::pairs_in, crate::specs::Expressions::changed, crate::specs::Expressions::applied, crate::specs::Expressions::where_true, crate::specs::Expressions::bound_by, crate::specs::Expressions::one_bound, crate::specs::Expressions::defined_in, crate::specs::Expressions::branches, crate::specs::Expressions::others_in, crate::specs::Expressions::cases_in, crate::specs::Expressions::givens, crate::specs::Expressions::givens_each, crate::specs::Expressions::givens_maplets))]
+#[tactic(auto, unfolding(crate::specs::Expressions::check, crate::specs::Expressions::listed, crate::specs::Expressions::pairs_in, crate::specs::Expressions::changed, crate::specs::Expressions::applied, crate::specs::Expressions::where_true, crate::specs::Expressions::bound_by, crate::specs::Expressions::one_bound, crate::specs::Expressions::defined_in, crate::specs::Expressions::branches, crate::specs::Expressions::others_in, crate::specs::Expressions::cases_in, crate::specs::Expressions::givens, crate::specs::Expressions::givens_each, crate::specs::Expressions::givens_maplets, crate::specs::Results::after))]
 pub fn operands()
     ensures left { main_fault nothing (both (yes_at 1) Plus (whole 1 8) 6) ≡ refused NoCommonValue 1 }
     ensures right { main_fault nothing (both (whole 1 1) Plus (yes_at 5) 3) ≡ refused NoCommonValue 5 }
@@ -30,7 +30,7 @@ pub fn operands()
 {}
 
 /// What is taken of the parts of a value: their form, and any form where the whole does not fit.
-#[tactic(auto, unfolding(crate::specs::Expressions::check, crate::specs::Expressions::listed, crate::specs::Expressions::pairs_in, crate::specs::Expressions::changed, crate::specs::Expressions::applied, crate::specs::Expressions::where_true, crate::specs::Expressions::bound_by, crate::specs::Expressions::one_bound, crate::specs::Expressions::defined_in, crate::specs::Expressions::branches, crate::specs::Expressions::others_in, crate::specs::Expressions::cases_in, crate::specs::Expressions::givens, crate::specs::Expressions::givens_each, crate::specs::Expressions::givens_maplets))]
+#[tactic(auto, unfolding(crate::specs::Expressions::check, crate::specs::Expressions::listed, crate::specs::Expressions::pairs_in, crate::specs::Expressions::changed, crate::specs::Expressions::applied, crate::specs::Expressions::where_true, crate::specs::Expressions::bound_by, crate::specs::Expressions::one_bound, crate::specs::Expressions::defined_in, crate::specs::Expressions::branches, crate::specs::Expressions::others_in, crate::specs::Expressions::cases_in, crate::specs::Expressions::givens, crate::specs::Expressions::givens_each, crate::specs::Expressions::givens_maplets, crate::specs::Results::after))]
 pub fn parts_of_operands()
     ensures head { main_fault nothing (both (before Head (sequence_of (yes_at 5 ∷ []) 4) 1) Plus (whole 1 13) 11) ≡ refused NoCommonValue 1 }
     ensures mixed { main_fault nothing (both (before Head (sequence_of (yes_at 5 ∷ whole 1 11 ∷ []) 4) 1) Plus (whole 1 16) 14) ≡ None }
@@ -41,7 +41,7 @@ pub fn parts_of_operands()
 {}
 
 /// Applications that look up: a sequence by a number, a map by any key, with one argument.
-#[tactic(auto, unfolding(crate::specs::Expressions::check, crate::specs::Expressions::listed, crate::specs::Expressions::pairs_in, crate::specs::Expressions::changed, crate::specs::Expressions::applied, crate::specs::Expressions::where_true, crate::specs::Expressions::bound_by, crate::specs::Expressions::one_bound, crate::specs::Expressions::defined_in, crate::specs::Expressions::branches, crate::specs::Expressions::others_in, crate::specs::Expressions::cases_in, crate::specs::Expressions::givens, crate::specs::Expressions::givens_each, crate::specs::Expressions::givens_maplets))]
+#[tactic(auto, unfolding(crate::specs::Expressions::check, crate::specs::Expressions::listed, crate::specs::Expressions::pairs_in, crate::specs::Expressions::changed, crate::specs::Expressions::applied, crate::specs::Expressions::where_true, crate::specs::Expressions::bound_by, crate::specs::Expressions::one_bound, crate::specs::Expressions::defined_in, crate::specs::Expressions::branches, crate::specs::Expressions::others_in, crate::specs::Expressions::cases_in, crate::specs::Expressions::givens, crate::specs::Expressions::givens_each, crate::specs::Expressions::givens_maplets, crate::specs::Results::after))]
 pub fn looking_up()
     ensures index { main_fault nothing (applied_to (sequence_of (whole 1 2 ∷ []) 1) (yes_at 5 ∷ []) 4) ≡ refused NoCommonValue 5 }
     ensures key { main_fault nothing (applied_to (map_enumeration (one_maplet (whole 1 2) (whole 2 8) no_maplets) (at 1)) (yes_at 11 ∷ []) 10) ≡ None }
@@ -50,7 +50,7 @@ pub fn looking_up()
 {}
 
 /// What is bound, and where it is seen.
-#[tactic(auto, unfolding(crate::specs::Expressions::check, crate::specs::Expressions::listed, crate::specs::Expressions::pairs_in, crate::specs::Expressions::changed, crate::specs::Expressions::applied, crate::specs::Expressions::where_true, crate::specs::Expressions::bound_by, crate::specs::Expressions::one_bound, crate::specs::Expressions::defined_in, crate::specs::Expressions::branches, crate::specs::Expressions::others_in, crate::specs::Expressions::cases_in, crate::specs::Expressions::givens, crate::specs::Expressions::givens_each, crate::specs::Expressions::givens_maplets))]
+#[tactic(auto, unfolding(crate::specs::Expressions::check, crate::specs::Expressions::listed, crate::specs::Expressions::pairs_in, crate::specs::Expressions::changed, crate::specs::Expressions::applied, crate::specs::Expressions::where_true, crate::specs::Expressions::bound_by, crate::specs::Expressions::one_bound, crate::specs::Expressions::defined_in, crate::specs::Expressions::branches, crate::specs::Expressions::others_in, crate::specs::Expressions::cases_in, crate::specs::Expressions::givens, crate::specs::Expressions::givens_each, crate::specs::Expressions::givens_maplets, crate::specs::Results::after))]
 pub fn binding()
     ensures no_match { main_fault nothing (let_in (one_defined (tuple_pattern (patterns (bound_at x 9 ∷ bound_at y 12 ∷ [])) (at 5)) None (whole 3 17) no_defined) (both (named_at x 22) Plus (whole 1 26) 24) (at 1)) ≡ None }
     ensures typed { main_fault nothing (let_in (one_defined (bound_at x 5) (Some (basic_type Bool (at 9))) (whole 1 16) no_defined) (named_at x 21) (at 1)) ≡ refused NoCommonValue 16 }
@@ -62,7 +62,7 @@ pub fn binding()
 {}
 
 /// Conditions and branches: any of them may give the value.
-#[tactic(auto, unfolding(crate::specs::Expressions::check, crate::specs::Expressions::listed, crate::specs::Expressions::pairs_in, crate::specs::Expressions::changed, crate::specs::Expressions::applied, crate::specs::Expressions::where_true, crate::specs::Expressions::bound_by, crate::specs::Expressions::one_bound, crate::specs::Expressions::defined_in, crate::specs::Expressions::branches, crate::specs::Expressions::others_in, crate::specs::Expressions::cases_in, crate::specs::Expressions::givens, crate::specs::Expressions::givens_each, crate::specs::Expressions::givens_maplets))]
+#[tactic(auto, unfolding(crate::specs::Expressions::check, crate::specs::Expressions::listed, crate::specs::Expressions::pairs_in, crate::specs::Expressions::changed, crate::specs::Expressions::applied, crate::specs::Expressions::where_true, crate::specs::Expressions::bound_by, crate::specs::Expressions::one_bound, crate::specs::Expressions::defined_in, crate::specs::Expressions::branches, crate::specs::Expressions::others_in, crate::specs::Expressions::cases_in, crate::specs::Expressions::givens, crate::specs::Expressions::givens_each, crate::specs::Expressions::givens_maplets, crate::specs::Results::after))]
 pub fn branches()
     ensures condition { main_fault nothing (if_else (whole 1 4) (whole 2 11) no_branches (whole 3 18) (at 1)) ≡ refused NoCommonValue 4 }
     ensures either { main_fault nothing (both (bracketed (if_else (yes_at 5) (yes_at 15) no_branches (whole 3 25) (at 2)) (at 1)) Plus (whole 1 30) 28) ≡ None }
@@ -70,7 +70,7 @@ pub fn branches()
 {}
 
 /// Names of classes and members, and places that reach less.
-#[tactic(auto, unfolding(crate::specs::Expressions::check, crate::specs::Expressions::listed, crate::specs::Expressions::pairs_in, crate::specs::Expressions::changed, crate::specs::Expressions::applied, crate::specs::Expressions::where_true, crate::specs::Expressions::bound_by, crate::specs::Expressions::one_bound, crate::specs::Expressions::defined_in, crate::specs::Expressions::branches, crate::specs::Expressions::others_in, crate::specs::Expressions::cases_in, crate::specs::Expressions::givens, crate::specs::Expressions::givens_each, crate::specs::Expressions::givens_maplets))]
+#[tactic(auto, unfolding(crate::specs::Expressions::check, crate::specs::Expressions::listed, crate::specs::Expressions::pairs_in, crate::specs::Expressions::changed, crate::specs::Expressions::applied, crate::specs::Expressions::where_true, crate::specs::Expressions::bound_by, crate::specs::Expressions::one_bound, crate::specs::Expressions::defined_in, crate::specs::Expressions::branches, crate::specs::Expressions::others_in, crate::specs::Expressions::cases_in, crate::specs::Expressions::givens, crate::specs::Expressions::givens_each, crate::specs::Expressions::givens_maplets, crate::specs::Results::after))]
 pub fn reaching_out()
     ensures no_class { main_fault nothing (new_at a 5 1) ≡ refused UnknownName 5 }
     ensures class { main_fault (only has_v) (new_at a 5 1) ≡ None }

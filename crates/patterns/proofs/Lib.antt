@@ -1,5 +1,4 @@
 pub mod Crossed
-pub mod Following
 pub mod Fronts
 pub mod Lists
 pub mod Opening

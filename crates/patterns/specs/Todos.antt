@@ -53,10 +53,6 @@ abbrev pub subject_tree : Subject → ValueTree
 subject_tree (Whole v) = v.now
 subject_tree (Part vs) = sequence (value_trees vs.now)
 
--- the record type of this class and this name
-abbrev pub record_type_of_names : Name × Name → RecordType
-record_type_of_names names = record { class = names.0; name = names.1 }
-
 -- what references are to
 abbrev pub at : {A : Type 0} → List (Bor A) → List A
 at references = map (λ r. r.now) references

@@ -12,10 +12,11 @@ ghost use Rattle.type_tree.specs.LiteralView.{literal_view};
 ghost use Rattle.expr_tree.specs.View.{pattern_view, pattern_views, pattern_trees, maplet_pattern_view, maplet_pattern_trees};
 
 use crate::literals::is_literal;
-use crate::record_types::{fields, record_type};
+use crate::record_types::fields;
 use crate::subject::Subject;
 use crate::todo::{Next, Todo};
 use expr_tree::{Literal, MapletPattern, Pattern, TypeNames};
+use record_names::record_type;
 use std::alloc::Global;
 use vdm_kinds::{Name, OutOfMemory};
 use vdm_values::Value;

@@ -1,0 +1,5 @@
+mod Gathered
+mod Lists
+mod OfKinds
+mod Places
+mod Turns

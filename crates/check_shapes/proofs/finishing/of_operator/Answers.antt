@@ -1,0 +1,25 @@
+use Rattle.std.proofs.Common.{◌≡◌, ◌∙◌, ap, map, subst, IfOk}
+use Rattle.form_meaning.specs.Forms.{FormTree}
+use Rattle.class_checks.specs.Operators.{Source, gives_of_two, is_source, takes_from}
+use Rattle.class_checks.specs.Shapes.{unfit}
+use Rattle.check_scopes.specs.Told.{spec_in}
+use Rattle.check_shapes.specs.ShapeView.{seen_view}
+use Rattle.check_shapes.proofs.Gathered.{gone, stays}
+use Rattle.check_shapes.proofs.finishing.of_operator.Goals as goal
+
+pub returns-then-is_unfit : goal.returns-then-is_unfit
+returns-then-is_unfit c =
+    c.any.ensures
+    ∙ gone (takes_from c.args.sign) (map seen_view c.args.done.now) _
+    (c.if-is_unfit.ensures
+    ∙ ap (λ (s : Source). unfit (is_source s) 0 (map seen_view c.args.done.now)) c.source.ensures)
+
+pub returns : goal.returns
+returns c =
+    subst (λ (t : FormTree). IfOk c.of_two.result (λ f. f ≡ t))
+    (c.way_of_two.ensures (spec_in c.args.setting) c.in_ok-left.left c.in_ok-right.right
+    ∙ (λ i. gives_of_two (spec_in c.args.setting) c.args.sign (c.in_ok-left.ensures i) (c.in_ok-right.ensures i))
+    ∙ stays (takes_from c.args.sign) (map seen_view c.args.done.now) _
+    (c.if-is_unfit.ensures
+    ∙ ap (λ (s : Source). unfit (is_source s) 0 (map seen_view c.args.done.now)) c.source.ensures))
+    c.of_two.ensures

@@ -1,0 +1,2 @@
+mod Faulted
+mod TypeTurns
