@@ -1,5 +1,5 @@
+mod AnyForm
 mod Gathered
 mod Lists
-mod OfKinds
 mod Places
 mod Turns

@@ -8,13 +8,12 @@ ghost use Rattle.check_scopes.specs.Told.{spec_in};
 ghost use Rattle.check_shapes.specs.ShapeView.{names_of, seen_view, shape_view};
 
 use crate::gathering::{forms_seen, is_unfit, keys_seen, parts_seen, seen_at, values_seen};
-use crate::kind::Kind;
-use crate::making::{map_with, sequence_of, sequence_with, set_with};
-use crate::operators::{of_one, of_two};
 use crate::shape::{Seen, Shape};
-use crate::signs::{Operands, source};
 use crate::taking::{Taking, taken_by};
-use crate::ways::{way_of_one, way_of_two};
+use check_operators::{
+    Kind, Operands, map_with, of_one, of_two, sequence_of, sequence_with, set_with, source,
+    way_of_one, way_of_two,
+};
 use check_scopes::Setting;
 use expr_tree::FieldValue;
 use std::alloc::Global;

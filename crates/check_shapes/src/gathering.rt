@@ -8,10 +8,10 @@ ghost use Rattle.class_checks.specs.Shapes.{all_seen, parts_seen, every_other, a
 ghost use Rattle.type_forms.specs.Tree.{form_trees};
 ghost use Rattle.check_shapes.specs.InTurn.{in_turn};
 ghost use Rattle.check_shapes.specs.ShapeView.{seen_view};
-ghost use Rattle.check_shapes.specs.Sources.{source_of};
+ghost use Rattle.check_operators.specs.Sources.{source_of};
 
 use crate::shape::Seen;
-use crate::signs::{Operands, is_source};
+use check_operators::{Operands, is_source};
 use std::alloc::Global;
 use type_forms::{Form, joined};
 use vdm_kinds::OutOfMemory;

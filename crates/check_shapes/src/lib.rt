@@ -1,22 +1,14 @@
-//! What operands and parts have to meet, and the form that follows from theirs.
+//! What parts of a node have to meet, and the form that follows from theirs. It hands on what operators have.
 #![tactic(auto)]
 
 mod finishing;
 mod gathering;
-mod kind;
-mod literals;
-mod making;
-mod operators;
 mod records;
 mod shape;
-mod signs;
 mod taking;
 mod wants;
-mod ways;
 
+pub use check_operators::{Kind, is_like, literal_form, map_with, sequence_with, set_with};
 pub use finishing::finished;
-pub use kind::{Kind, is_like};
-pub use literals::literal_form;
-pub use making::{map_with, sequence_with, set_with};
 pub use shape::{Seen, Shape};
 pub use wants::{next_part, want_like, want_truth};

@@ -10,10 +10,9 @@ ghost use Rattle.type_forms.specs.Tree.{form_trees};
 ghost use Rattle.check_scopes.specs.Told.{first_in, spec_in};
 ghost use Rattle.check_shapes.specs.ShapeView.{names_of, seen_view, shape_view};
 
-use crate::kind::{Kind, is_like};
 use crate::shape::{Seen, Shape};
-use crate::signs::{left_want, operand_want, subsequence_want};
 use crate::taking::{Taking, fits_some, taken_by};
+use check_operators::{Kind, is_like, left_want, operand_want, subsequence_want};
 use check_scopes::{Refusals, Setting};
 use expr_tree::FieldValue;
 use std::alloc::Global;

@@ -1,6 +1,6 @@
 use Rattle.std.proofs.Common.{arith}
 use Rattle.class_checks.specs.Operators.{is_source}
-use Rattle.check_shapes.specs.Sources.{source_of}
+use Rattle.check_operators.specs.Sources.{source_of}
 use Rattle.check_shapes.proofs.Gathered.{unfit_end, unfit_here, unfit_step}
 use Rattle.check_shapes.proofs.gathering.is_unfit.Goals as goal
 

@@ -2,7 +2,7 @@ use Rattle.std.proofs.Common.{◌≡◌, drop, map}
 use Rattle.class_checks.specs.Operators.{is_source}
 use Rattle.class_checks.specs.Shapes.{unfit}
 use Rattle.check_shapes.specs.ShapeView.{seen_view}
-use Rattle.check_shapes.specs.Sources.{source_of}
+use Rattle.check_operators.specs.Sources.{source_of}
 use Rattle.check_shapes.proofs.gathering.is_unfit.Given as goal
 
 abbrev pub invariant-loop-i : goal.invariant-loop-i

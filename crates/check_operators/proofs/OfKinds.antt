@@ -3,11 +3,11 @@ use Rattle.std.proofs.Common.{◌≡◌, true, false, refl}
 use Rattle.abstract_syntax.specs.Classes.{SpecTree}
 use Rattle.class_checks.specs.TypeNames.{descends, meets}
 use Rattle.class_meaning.specs.Classes.{class_names}
-use Rattle.form_meaning.specs.Forms.{FormTree, AltTrees, any_form, no_form, one_of}
+use Rattle.form_meaning.specs.Forms.{AltTrees, no_form, one_of}
 use Rattle.form_meaning.specs.Meeting.{some_meet}
-use Rattle.check_shapes.specs.Kinds.{alts_of_kind, form_of_kind}
-use Rattle.check_shapes.specs.declared.kind.Kind.{Kind}
-use Rattle.check_shapes.specs.declared.kind.Kind.TheVariants.{Any, Truth, Number, Set, Sequence, Map, SequenceOrMap}
+use Rattle.check_operators.specs.Kinds.{alts_of_kind, form_of_kind}
+use Rattle.check_operators.specs.declared.kind.Kind.{Kind}
+use Rattle.check_operators.specs.declared.kind.Kind.TheVariants.{Any, Truth, Number, Set, Sequence, Map, SequenceOrMap}
 
 -- of any value
 pub when_any : (spec : SpecTree) (kind : Kind) (alts : AltTrees) → true ≡ meets spec no_form (form_of_kind kind)
@@ -30,8 +30,3 @@ not_any spec Set alts e = refl
 not_any spec Sequence alts e = refl
 not_any spec Map alts e = refl
 not_any spec SequenceOrMap alts e = refl
-
-pub any_met : (spec : SpecTree) (form : FormTree) → true ≡ meets spec form any_form
-any_met spec any_form = refl
-any_met spec no_form = refl
-any_met spec (one_of alts) = refl

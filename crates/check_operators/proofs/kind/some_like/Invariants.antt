@@ -4,8 +4,8 @@ use Rattle.class_checks.specs.TypeNames.{descends}
 use Rattle.class_meaning.specs.Classes.{class_names}
 use Rattle.form_meaning.specs.Meeting.{some_meet}
 use Rattle.type_forms.specs.Tree.{alt_trees}
-use Rattle.check_shapes.specs.Kinds.{alts_of_kind}
-use Rattle.check_shapes.proofs.kind.some_like.Given as goal
+use Rattle.check_operators.specs.Kinds.{alts_of_kind}
+use Rattle.check_operators.proofs.kind.some_like.Given as goal
 
 abbrev pub invariant-loop-alternative : goal.invariant-loop-alternative
 invariant-loop-alternative l =

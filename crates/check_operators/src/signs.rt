@@ -4,30 +4,22 @@ ghost use Rattle.std.specs.Prelude.{◌≡◌};
 ghost use Rattle.abstract_syntax.specs.Classes.{SpecTree};
 ghost use Rattle.class_checks.specs.Operators.{left_want, right_want, source, is_source};
 ghost use Rattle.class_checks.specs.Shapes.{operand_want, subsequence_want};
-ghost use Rattle.check_shapes.specs.Kinds.{form_of_kind};
-ghost use Rattle.check_shapes.specs.Sources.{source_of};
+ghost use Rattle.check_operators.specs.Kinds.{form_of_kind};
+ghost use Rattle.check_operators.specs.Sources.{source_of};
 
 use crate::kind::Kind;
 use vdm_kinds::Sign;
 
 /// What an operator before its operand wants of it, and one between operands of the left one.
-pub(crate) fn left_want(sign: Sign) -> Kind
+pub fn left_want(sign: Sign) -> Kind
     ensures { form_of_kind result ≡ left_want sign }
 {
     match sign {
         Sign::Equivalent | Sign::Implies | Sign::Or | Sign::And | Sign::Not => Kind::Truth,
         Sign::Equal | Sign::NotEqual | Sign::InSet | Sign::NotInSet => Kind::Any,
         Sign::Less | Sign::LessEqual | Sign::Greater | Sign::GreaterEqual => Kind::Number,
-        Sign::Plus
-        | Sign::Minus
-        | Sign::Times
-        | Sign::Div
-        | Sign::Rem
-        | Sign::Mod
-        | Sign::Positive
-        | Sign::Negative
-        | Sign::Absolute
-        | Sign::Exponent => Kind::Number,
+        Sign::Plus | Sign::Minus | Sign::Times | Sign::Div | Sign::Rem | Sign::Mod => Kind::Number,
+        Sign::Positive | Sign::Negative | Sign::Absolute | Sign::Exponent => Kind::Number,
         Sign::Subset | Sign::ProperSubset | Sign::Union | Sign::Difference | Sign::Inter =>
             Kind::Set,
         Sign::DomainRestriction
@@ -66,7 +58,7 @@ fn right_want(sign: Sign) -> Kind
 }
 
 /// What an operator wants of the operand behind so many others.
-pub(crate) fn operand_want(sign: Sign, others: usize) -> Kind
+pub fn operand_want(sign: Sign, others: usize) -> Kind
     ensures { form_of_kind result ≡ operand_want sign others }
 {
     if others == 0 {
@@ -77,7 +69,7 @@ pub(crate) fn operand_want(sign: Sign, others: usize) -> Kind
 }
 
 /// What is wanted behind so many parts of `q(i, ..., j)`.
-pub(crate) fn subsequence_want(others: usize) -> Kind
+pub fn subsequence_want(others: usize) -> Kind
     ensures { form_of_kind result ≡ subsequence_want others }
 {
     if others == 0 {
@@ -89,7 +81,7 @@ pub(crate) fn subsequence_want(others: usize) -> Kind
 
 /// The operands whose parts a value has.
 #[derive(Clone, Copy, Debug, PartialEq, Eq)]
-pub(crate) enum Operands {
+pub enum Operands {
     Neither,
     Left,
     Right,
@@ -97,7 +89,7 @@ pub(crate) enum Operands {
 }
 
 /// Of which operands an operator's value has the parts.
-pub(crate) fn source(sign: Sign) -> Operands
+pub fn source(sign: Sign) -> Operands
     ensures { source_of result ≡ source sign }
 {
     match sign {
@@ -124,7 +116,7 @@ pub(crate) fn source(sign: Sign) -> Operands
 }
 
 /// Whether the operand behind so many others is one of these.
-pub(crate) fn is_source(source: Operands, others: usize) -> bool
+pub fn is_source(source: Operands, others: usize) -> bool
     ensures { result ≡ is_source (source_of source) others }
 {
     match source {

@@ -5,10 +5,10 @@ use Rattle.form_meaning.specs.Parts.{element, item, key, value, taken}
 use Rattle.type_forms.specs.Taking.{take_of}
 use Rattle.class_checks.specs.Operators.{truth, number, set_with, sequence_with, map_with, within, items_within, overridden}
 use Rattle.class_checks.specs.TypeNames.{opened}
-use Rattle.check_shapes.specs.declared.ways.WayOfOne.{WayOfOne}
-use Rattle.check_shapes.specs.declared.ways.WayOfOne.TheVariants.{Truth, Number, Numbers, SetOf, SequenceOf, MapOf, Part, SetOfSets, SetWithin, SequenceWithin, MapWithin}
-use Rattle.check_shapes.specs.declared.ways.WayOfTwo.{WayOfTwo}
-use Rattle.check_shapes.specs.declared.ways.WayOfTwo.TheVariants.{
+use Rattle.check_operators.specs.declared.ways.WayOfOne.{WayOfOne}
+use Rattle.check_operators.specs.declared.ways.WayOfOne.TheVariants.{Truth, Number, Numbers, SetOf, SequenceOf, MapOf, Part, SetOfSets, SetWithin, SequenceWithin, MapWithin}
+use Rattle.check_operators.specs.declared.ways.WayOfTwo.{WayOfTwo}
+use Rattle.check_operators.specs.declared.ways.WayOfTwo.TheVariants.{
   Truth as TruthOfTwo,
   Number as NumberOfTwo,
   Union,

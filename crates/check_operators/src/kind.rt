@@ -7,7 +7,7 @@ ghost use Rattle.form_meaning.specs.Forms.{no_form, one_of};
 ghost use Rattle.form_meaning.specs.Meeting.{some_meet, meets_one};
 ghost use Rattle.type_forms.specs.Tree.{alt_of, alt_trees};
 ghost use Rattle.check_scopes.specs.Told.{spec_in};
-ghost use Rattle.check_shapes.specs.Kinds.{form_of_kind, alts_of_kind};
+ghost use Rattle.check_operators.specs.Kinds.{form_of_kind, alts_of_kind};
 
 use check_scopes::Setting;
 use std::alloc::Global;

@@ -4,14 +4,14 @@ ghost use Rattle.std.specs.Prelude.{◌≡◌};
 ghost use Rattle.abstract_syntax.specs.Classes.{SpecTree};
 ghost use Rattle.form_meaning.specs.Forms.{FormTree};
 ghost use Rattle.class_checks.specs.Operators.{gives_of_one, gives_of_two};
-ghost use Rattle.check_shapes.specs.Ways.{of_one, of_two};
+ghost use Rattle.check_operators.specs.Ways.{of_one, of_two};
 
 use type_forms::PartOf;
 use vdm_kinds::Sign;
 
 /// What an operator before its operand gives.
 #[derive(Clone, Copy, Debug, PartialEq, Eq)]
-pub(crate) enum WayOfOne {
+pub enum WayOfOne {
     Truth,
     Number,
     /// A set of numbers.
@@ -34,7 +34,7 @@ pub(crate) enum WayOfOne {
 
 /// What an operator between two operands gives.
 #[derive(Clone, Copy, Debug, PartialEq, Eq)]
-pub(crate) enum WayOfTwo {
+pub enum WayOfTwo {
     Truth,
     Number,
     Union,
@@ -49,7 +49,8 @@ pub(crate) enum WayOfTwo {
     Composition,
 }
 
-pub(crate) fn way_of_one(sign: Sign) -> WayOfOne
+/// The way of an operator before its operand.
+pub fn way_of_one(sign: Sign) -> WayOfOne
     ensures { (spec : SpecTree) → (form : FormTree) → of_one spec result form ≡ gives_of_one spec sign form }
 {
     match sign {
@@ -70,7 +71,8 @@ pub(crate) fn way_of_one(sign: Sign) -> WayOfOne
     }
 }
 
-pub(crate) fn way_of_two(sign: Sign) -> WayOfTwo
+/// The way of an operator between two operands.
+pub fn way_of_two(sign: Sign) -> WayOfTwo
     ensures { (spec : SpecTree) → (form other : FormTree) → of_two spec result form other ≡ gives_of_two spec sign form other }
 {
     match sign {

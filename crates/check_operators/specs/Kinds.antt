@@ -1,8 +1,8 @@
 -- Kinds of values, as the forms that operands have to meet.
 use Rattle.form_meaning.specs.Forms.{FormTree, any_form, boolean_alt, number_alt, sequence_alt, set_alt, map_alt, AltTrees, no_alts, one_alt}
 use Rattle.class_checks.specs.Operators.{truth, number, any_set, any_sequence, any_map, sequence_or_map}
-use Rattle.check_shapes.specs.declared.kind.Kind.{Kind}
-use Rattle.check_shapes.specs.declared.kind.Kind.TheVariants.{Any, Truth, Number, Set, Sequence, Map, SequenceOrMap}
+use Rattle.check_operators.specs.declared.kind.Kind.{Kind}
+use Rattle.check_operators.specs.declared.kind.Kind.TheVariants.{Any, Truth, Number, Set, Sequence, Map, SequenceOrMap}
 
 abbrev pub form_of_kind : Kind → FormTree
 form_of_kind Any = any_form

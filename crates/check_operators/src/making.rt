@@ -42,7 +42,7 @@ pub(crate) fn set_of(alloc: Global, part: PartOf, form: &Form) -> Result<Form, O
 }
 
 /// Sequences of the parts that are taken of a form.
-pub(crate) fn sequence_of(alloc: Global, part: PartOf, form: &Form) -> Result<Form, OutOfMemory>
+pub fn sequence_of(alloc: Global, part: PartOf, form: &Form) -> Result<Form, OutOfMemory>
     ensures { IfOk result (λ f. f ≡ sequence_with (taken (take_of part) form.now)) }
 {
     sequence_with(alloc, taken(alloc, part, form)?)

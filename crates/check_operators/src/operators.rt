@@ -6,7 +6,7 @@ ghost use Rattle.form_meaning.specs.Parts.{taken, item, key, value};
 ghost use Rattle.class_checks.specs.Operators.{any_map, any_sequence, gives_of_one, gives_of_two, map_with, overridden, sequence_with};
 ghost use Rattle.class_checks.specs.TypeNames.{meets};
 ghost use Rattle.check_scopes.specs.Told.{spec_in};
-ghost use Rattle.check_shapes.specs.Ways.{of_one, of_two};
+ghost use Rattle.check_operators.specs.Ways.{of_one, of_two};
 
 use crate::kind::{Kind, is_like};
 use crate::making::{
@@ -19,7 +19,7 @@ use type_forms::{Form, PartOf, joined, taken};
 use vdm_kinds::OutOfMemory;
 
 /// The form that an operator gives of the form of its operand.
-pub(crate) fn of_one(
+pub fn of_one(
     alloc: Global,
     setting: Setting<'_>,
     way: WayOfOne,
@@ -52,7 +52,7 @@ pub(crate) fn of_one(
 }
 
 /// The form that an operator gives of the forms of its operands.
-pub(crate) fn of_two(
+pub fn of_two(
     alloc: Global,
     setting: Setting<'_>,
     way: WayOfTwo,
