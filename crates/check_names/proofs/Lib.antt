@@ -1,0 +1,5 @@
+pub mod Behind
+pub mod ByNumber
+pub mod Counted
+pub mod Lines
+pub mod Notes

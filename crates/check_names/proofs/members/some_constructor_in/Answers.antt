@@ -1,0 +1,8 @@
+use Rattle.std.proofs.Common.{ap, ◌∙◌}
+use Rattle.std.specs.List.{list_any}
+use Rattle.class_checks.specs.Callees.{is_constructor}
+use Rattle.vdm_tree.specs.ClassView.{class_view}
+use Rattle.check_names.proofs.members.some_constructor_in.Goals as goal
+
+pub returns : goal.returns
+returns c = c.some_constructor_of.ensures ∙ ap (list_any (is_constructor (class_view c.args.class.now))) c.operations_of.ensures

@@ -1,0 +1,10 @@
+use Rattle.std.proofs.Common.{◌≡◌, map, drop}
+use Rattle.std.specs.List.{list_any}
+use Rattle.class_checks.specs.Callees.{is_constructor}
+use Rattle.vdm_tree.specs.ClassView.{class_view, operation_view}
+use Rattle.check_names.proofs.members.some_constructor_of.Given as goal
+
+abbrev pub invariant-loop-operation : goal.invariant-loop-operation
+invariant-loop-operation l =
+    list_any (is_constructor (class_view l.class)) (map operation_view (drop l.operation-index l.operations))
+    ≡ list_any (is_constructor (class_view l.class)) (map operation_view l.operations)
