@@ -1,2 +1,3 @@
+pub mod Closers
 pub mod Reads
 pub mod TokenCode

@@ -1,6 +1,6 @@
 // Whether a bracket begins a call.
 
-ghost use Rattle.std.specs.Prelude.{◌≡◌, ℕ, ◌+◌, ◌<◌, ◌≤◌, IfSome, List, reverse};
+ghost use Rattle.std.specs.Prelude.{◌≡◌, ℕ, ◌+◌, ◌<◌, ◌≤◌, IfSome, List, reverse, take};
 ghost use Rattle.grammar_words.specs.Tokens.{Token as TokenTree};
 ghost use Rattle.grammar_tokens.specs.View.{token_views};
 ghost use Rattle.stmt_reading.specs.Statements.{at_bracket, begins_call, behind_bracket};
@@ -41,12 +41,33 @@ fn behind_bracket(items: &[Token]) -> &[Token]
     rest
 }
 
+/// So many of the tokens, or all.
+fn first_of(items: &[Token], left: usize) -> &[Token]
+    ensures { result.now ≡ take left items.now }
+{
+    if left < items.len() {
+        &items[..left]
+    } else {
+        items
+    }
+}
+
 impl Source {
+    /// What stands behind the bracket that closes the one open before these tokens. The first token is the last of these.
+    fn behind_bracket(&self) -> &[Token]
+        ensures { reverse (token_views result.now) ≡ behind_bracket 0 self.now }
+    {
+        match self.closers.get(self.items.len()) {
+            Some(left) => first_of(&self.items, left),
+            None => behind_bracket(&self.items),
+        }
+    }
+
     /// Whether a `(` before these tokens begins a call: a postfix stands behind the `)` that closes it.
     pub fn begins_call(&self) -> bool
         ensures { result ≡ begins_call self.now }
     {
-        let behind = behind_bracket(&self.items);
+        let behind = self.behind_bracket();
         place_of(Word::OpenRound, behind).is_some()
             || place_of(Word::Dot, behind).is_some()
             || place_of(Word::DotNumber, behind).is_some()

@@ -2,6 +2,7 @@
 #![tactic(auto)]
 
 mod brackets;
+mod closers;
 mod front;
 mod leaves;
 mod names;

@@ -6,6 +6,7 @@ ghost use Rattle.stmt_reading.specs.Leaves.{word_in};
 ghost use Rattle.stmt_reading.specs.Statements.{is_there};
 ghost use Rattle.leaf_reader.specs.Reads.{Finds, Reads, Takes, next_word, same};
 
+use crate::closers::Closers;
 use crate::no_tree::{NO_TREE, NoTree};
 use crate::words::{is_word, word_of};
 use grammar_tokens::Token;
@@ -18,6 +19,7 @@ use vdm_kinds::{Halt, OutOfMemory, Place};
 pub struct Source {
     // The next is the last.
     pub(crate) items: Vec<Token>,
+    pub(crate) closers: Closers,
 }
 
 impl Model for Source {
@@ -31,7 +33,11 @@ impl Model for Source {
 
     ghost coded = { coded_list token_code };
 
+    ghost use Rattle.leaf_reader.specs.Closers.{AreCounts};
+
     ghost view = { λ s. reverse (token_views s.items.items) };
+
+    ghost invariant = { λ s. AreCounts s.closers.counts.items (token_views s.items.items) };
 }
 
 /// Where the word stands, if it comes next in tokens of which the next is the last.
@@ -45,13 +51,14 @@ pub(crate) fn place_of(word: Word, items: &[Token]) -> Option<Place>
 }
 
 impl Source {
-    /// All of these tokens are still to be read. It takes no memory.
+    /// All of these tokens are still to be read. Where there is no memory to count them, brackets take longer to read.
     pub fn new(tokens: Vec<Token>) -> Source
         ensures { result ≡ token_views tokens.items }
     {
         let mut items = tokens;
         items.reverse();
-        Source { items }
+        let closers = Closers::new(*items.allocator(), &items);
+        Source { items, closers }
     }
 
     /// How many tokens there are.
@@ -87,6 +94,7 @@ impl Source {
     pub fn put_back(&mut self, token: Token) -> Result<(), OutOfMemory>
         ensures { OnOk result (self.new ≡ token_view token ∷ self.old) }
     {
+        self.closers.put(self.items.len(), word_of(&token));
         Ok(self.items.push(token)?)
     }
 

@@ -13,6 +13,7 @@ use crate::endings::stopped;
 use crate::item::{Item, bracket};
 use crate::reading::Reading;
 use crate::readings::{Next, Readings};
+use crate::spares::Spares;
 use front_tables::turn_of;
 use grammar_fronts::{Front, Wanted};
 use std::alloc::Global;
@@ -36,6 +37,8 @@ pub(crate) struct Alive {
     readings: Readings,
     // Each is at its own `(`. Those before it have still to take that.
     held: VecDeque<Held>,
+    // Of those that are over.
+    spares: Spares,
 }
 
 impl Alive {
@@ -49,6 +52,7 @@ impl Alive {
         Ok(Alive {
             readings,
             held: VecDeque::new(alloc),
+            spares: Spares::new(alloc),
         })
     }
 
@@ -70,7 +74,7 @@ impl Alive {
         let mut all = Readings::new(alloc);
         while let Some(held) = self.next() {
             let Held { reading, place } = held;
-            all.read_each(alloc, bracket(place))?;
+            all.read_each(&mut self.spares, bracket(place))?;
             all.readings.push_front(reading)?;
         }
         Ok(all)
@@ -90,7 +94,7 @@ impl Alive {
         ensures { OnOk result (IsFollowed item self.old self.new) }
     {
         let mut all = self.spread(alloc)?;
-        all.read_each(alloc, item)?;
+        all.read_each(&mut self.spares, item)?;
         self.readings.append(all)
     }
 
@@ -123,24 +127,36 @@ impl Alive {
     }
 
     /// Lets go what is held back where an expression is wanted and the token begins none. Says whether it does.
-    fn lose(&mut self, item: Item) -> bool
-        ensures { IsFollowedIf result item self.old self.new }
+    fn lose(&mut self, item: Item) -> Result<bool, OutOfMemory>
+        ensures { IfOk result (λ is. IsFollowedIf is item self.old self.new) }
     {
         if self.readings.len() == 0 || turn_of(Wanted::Expression, item.word).is_some() {
-            return false;
+            return Ok(false);
         }
         if !self.want_expressions() {
-            return false;
+            return Ok(false);
         }
-        self.held.clear();
-        true
+        self.let_go()?;
+        Ok(true)
+    }
+
+    /// All that is held back is over.
+    fn let_go(&mut self) -> Result<(), OutOfMemory>
+        ensures held { OnOk result (self.new.held.items ≡ []) }
+        ensures same { OnOk result (self.new.readings ≡ self.old.readings) }
+    {
+        while let Some(held) = self.next() {
+            let Held { reading, place: _ } = held;
+            self.spares.give(reading.into_parts())?;
+        }
+        Ok(())
     }
 
     /// What was held back takes the token, or is held back further on.
     fn follow(&mut self, alloc: Global, item: Item) -> Result<(), OutOfMemory>
         ensures { OnOk result (IsFollowed item self.old self.new) }
     {
-        if self.hold(item)? || self.lose(item) {
+        if self.hold(item)? || self.lose(item)? {
             return Ok(());
         }
         self.spread_with(alloc, item)
@@ -158,9 +174,9 @@ impl Alive {
     {
         if !self.readings.begins_shallow() {
             self.settle(alloc)?;
-            return self.readings.step(alloc, count, item);
+            return self.readings.step(&mut self.spares, count, item);
         }
-        self.readings.read_each(alloc, item)?;
+        self.readings.read_each(&mut self.spares, item)?;
         self.follow(alloc, item)?;
         if self.readings.len() == 0 {
             return Ok(Next::Found(stopped(count, &self.readings.endings)));

@@ -10,6 +10,7 @@ mod open_parts;
 mod reader;
 mod reading;
 mod readings;
+mod spares;
 mod wanted_stack;
 
 pub use reader::{front_of_tokens, front_of_words};

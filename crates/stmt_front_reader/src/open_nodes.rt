@@ -39,13 +39,19 @@ impl OpenNodes {
         }
     }
 
-    /// The same nodes once more.
-    pub(crate) fn copy(&self, alloc: Global) -> Result<OpenNodes, OutOfMemory>
-        ensures { IfOk result (λ nodes. nodes ≡ self.now) }
+    /// No node is open any more.
+    pub(crate) fn clear(&mut self)
+        ensures { self.new ≡ [] }
     {
-        Ok(OpenNodes {
-            items: Vec::from_slice(alloc, &self.items)?,
-        })
+        self.items.clear();
+    }
+
+    /// The same nodes are open as there, and no others.
+    pub(crate) fn copy_from(&mut self, other: &OpenNodes) -> Result<(), OutOfMemory>
+        ensures { OnOk result (self.new ≡ other.now) }
+    {
+        self.clear();
+        Ok(self.items.extend_from_slice(&other.items)?)
     }
 
     /// Whether more are open than may be.

@@ -1,12 +1,13 @@
 // What is wanted, and the nodes that wait for it.
 
-ghost use Rattle.std.specs.Prelude.{◌≡◌, true, ◌∷◌, ◌++◌, OnOk, IfOk};
+ghost use Rattle.std.specs.Prelude.{◌≡◌, true, [], ◌∷◌, ◌++◌, OnOk, IfOk};
 ghost use Rattle.front_tables.specs.View.{turn_view as inner_view};
 ghost use Rattle.stmt_fronts.specs.Depth as depths;
 ghost use Rattle.stmt_fronts.specs.Turns.{all_within, calls, followed, wanted_by, within};
 ghost use Rattle.stmt_tables.specs.View.{turn_view};
 
 use crate::open_nodes::OpenNodes;
+use crate::spares::Spares;
 use crate::wanted_stack::WantedStack;
 use front_tables::Turn as InnerTurn;
 use grammar_fronts::Wanted;
@@ -23,14 +24,36 @@ pub(crate) struct OpenParts {
 }
 
 impl OpenParts {
+    /// Nothing is wanted, and no node is open.
+    pub(crate) fn new(alloc: Global) -> OpenParts
+        ensures wanted { result.wanted ≡ [] }
+        ensures nodes { result.nodes ≡ [] }
+    {
+        OpenParts {
+            wanted: WantedStack::empty(alloc),
+            nodes: OpenNodes::new(alloc),
+        }
+    }
+
+    /// The memory of these, where nothing is wanted and no node is open.
+    pub(crate) fn emptied(self) -> OpenParts
+        ensures wanted { result.wanted ≡ [] }
+        ensures nodes { result.nodes ≡ [] }
+    {
+        let mut parts = self;
+        parts.wanted.clear();
+        parts.nodes.clear();
+        parts
+    }
+
     /// The same once more.
-    pub(crate) fn copy(&self, alloc: Global) -> Result<OpenParts, OutOfMemory>
+    pub(crate) fn copy(&self, spares: &mut Spares) -> Result<OpenParts, OutOfMemory>
         ensures { IfOk result (λ parts. (parts.wanted ≡ self.now.wanted) × (parts.nodes ≡ self.now.nodes)) }
     {
-        Ok(OpenParts {
-            wanted: self.wanted.copy(alloc)?,
-            nodes: self.nodes.copy(alloc)?,
-        })
+        let mut parts = spares.take();
+        parts.wanted.copy_from(&self.wanted)?;
+        parts.nodes.copy_from(&self.nodes)?;
+        Ok(parts)
     }
 
     /// A node is open, with what is wanted now behind it.

@@ -16,6 +16,7 @@ use crate::item::Item;
 use crate::names::Names;
 use crate::open_nodes::OpenNodes;
 use crate::open_parts::OpenParts;
+use crate::spares::Spares;
 use crate::wanted_stack::{Met, WantedStack};
 use front_tables::Turn as InnerTurn;
 use std::alloc::Global;
@@ -105,12 +106,19 @@ impl Reading {
         self.parts.wanted.wants_expression()
     }
 
+    /// Its parts, where it is over.
+    pub(crate) fn into_parts(self) -> OpenParts
+        ensures { result ≡ self.parts }
+    {
+        self.parts
+    }
+
     /// The same reading once more.
-    fn copy(&self, alloc: Global) -> Result<Reading, OutOfMemory>
+    fn copy(&self, spares: &mut Spares) -> Result<Reading, OutOfMemory>
         ensures { IfOk result (λ r. reading_view r ≡ reading_view self.now) }
     {
         Ok(Reading {
-            parts: self.parts.copy(alloc)?,
+            parts: self.parts.copy(spares)?,
             names: self.names,
             deep: self.deep,
             last: self.last,
@@ -155,7 +163,7 @@ impl Reading {
     /// The same in one way or in two.
     fn fork(
         &mut self,
-        alloc: Global,
+        spares: &mut Spares,
         turn: Turn,
         other: Option<Turn>,
         place: Place,
@@ -166,7 +174,7 @@ impl Reading {
             self.go_on(turn, place)?;
             return Ok(Step::Taken);
         };
-        let mut second = self.copy(alloc)?;
+        let mut second = self.copy(spares)?;
         self.go_on(turn, place)?;
         second.go_on(other, place)?;
         Ok(Step::Forked(second))
@@ -188,13 +196,13 @@ impl Reading {
     }
 
     /// A token comes next.
-    pub(crate) fn step(&mut self, alloc: Global, item: Item) -> Result<Step, OutOfMemory>
+    pub(crate) fn step(&mut self, spares: &mut Spares, item: Item) -> Result<Step, OutOfMemory>
         ensures { IfOk result (λ step. IsStep item (reading_view self.old) step (reading_view self.new)) }
     {
         match self.parts.wanted.meet(self.names, item) {
             Met::Takes(taker) => {
                 self.names = self.names.named(taker.expected, item.name);
-                self.fork(alloc, taker.turn, taker.other, item.place)
+                self.fork(spares, taker.turn, taker.other, item.place)
             }
             Met::Refuses { left, left_out } => Ok(Step::Ended(self.ending(left, left_out)?)),
         }

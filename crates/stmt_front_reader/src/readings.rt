@@ -11,6 +11,7 @@ ghost use Rattle.stmt_front_reader.specs.Views.{first_deep, reading_view, readin
 use crate::endings::stopped;
 use crate::item::Item;
 use crate::reading::{Reading, Step};
+use crate::spares::Spares;
 use grammar_fronts::Front;
 use std::alloc::Global;
 use std::collections::VecDeque;
@@ -99,15 +100,18 @@ impl Readings {
     }
 
     /// Puts a reading behind all others, in each way in which it goes on, or else notes its ending.
-    fn put(&mut self, alloc: Global, reading: Reading, item: Item) -> Result<(), OutOfMemory>
+    fn put(&mut self, spares: &mut Spares, reading: Reading, item: Item) -> Result<(), OutOfMemory>
         ensures readings { OnOk result (reading_views self.new.readings.items
             ≡ reading_views self.old.readings.items ++ went_on item (reading_view reading)) }
         ensures endings { OnOk result (self.new.endings.items
             ≡ self.old.endings.items ++ ending_if (went_on item (reading_view reading)) (fronts.ending_at item.word (reading_view reading))) }
     {
         let mut reading = reading;
-        match reading.step(alloc, item)? {
-            Step::Ended(ending) => Ok(self.endings.push(ending)?),
+        match reading.step(spares, item)? {
+            Step::Ended(ending) => {
+                self.endings.push(ending)?;
+                spares.give(reading.into_parts())
+            }
             Step::Taken => Ok(self.readings.push_back(reading)?),
             Step::Forked(other) => {
                 self.readings.push_back(reading)?;
@@ -117,7 +121,7 @@ impl Readings {
     }
 
     /// Each of them goes on or ends.
-    pub(crate) fn read_each(&mut self, alloc: Global, item: Item) -> Result<(), OutOfMemory>
+    pub(crate) fn read_each(&mut self, spares: &mut Spares, item: Item) -> Result<(), OutOfMemory>
         ensures readings { OnOk result (reading_views self.new.readings.items
             ≡ flat_map (went_on item) (reading_views self.old.readings.items)) }
         ensures endings { OnOk result (self.new.endings.items ≡ ended_each item (reading_views self.old.readings.items)) }
@@ -128,7 +132,7 @@ impl Readings {
             let Some(reading) = self.next() else {
                 return Ok(());
             };
-            self.put(alloc, reading, item)?;
+            self.put(spares, reading, item)?;
             left -= 1;
         }
         Ok(())
@@ -137,7 +141,7 @@ impl Readings {
     /// A token behind so many others.
     pub(crate) fn step(
         &mut self,
-        alloc: Global,
+        spares: &mut Spares,
         count: usize,
         item: Item,
     ) -> Result<Next, OutOfMemory>
@@ -147,7 +151,7 @@ impl Readings {
         if let Some(place) = self.deep_now() {
             return Ok(Next::Found(Front::TooDeep(place)));
         }
-        self.read_each(alloc, item)?;
+        self.read_each(spares, item)?;
         if self.len() == 0 {
             return Ok(Next::Found(stopped(count, &self.endings)));
         }

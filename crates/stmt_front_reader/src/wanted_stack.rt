@@ -91,13 +91,28 @@ impl WantedStack {
         })
     }
 
-    /// The same is wanted once more.
-    pub(crate) fn copy(&self, alloc: Global) -> Result<WantedStack, OutOfMemory>
-        ensures { IfOk result (λ stack. stack ≡ self.now) }
+    /// Nothing is wanted.
+    pub(crate) fn empty(alloc: Global) -> WantedStack
+        ensures { result ≡ [] }
     {
-        Ok(WantedStack {
-            items: Vec::from_slice(alloc, &self.items)?,
-        })
+        WantedStack {
+            items: Vec::new(alloc),
+        }
+    }
+
+    /// Nothing is wanted any more.
+    pub(crate) fn clear(&mut self)
+        ensures { self.new ≡ [] }
+    {
+        self.items.clear();
+    }
+
+    /// The same is wanted as there, and nothing else.
+    pub(crate) fn copy_from(&mut self, other: &WantedStack) -> Result<(), OutOfMemory>
+        ensures { OnOk result (self.new ≡ other.now) }
+    {
+        self.clear();
+        Ok(self.items.extend_from_slice(&other.items)?)
     }
 
     /// How much is wanted.

@@ -1,6 +1,7 @@
 use Rattle.std.proofs.Common.{◌≡◌, ◌+◌, length, reverse, take, drop, ap, subst, ◌∙◌}
 use Rattle.grammar_tokens.specs.View.{token_view, token_views}
 use Rattle.stmt_reading.specs.Leaves.{front_length}
+use Rattle.leaf_reader.proofs.Closing.{fewer_items}
 use Rattle.leaf_reader.proofs.Turned.{turned-front, turned-rest}
 use Rattle.leaf_reader.proofs.front.take_front.Goals as goal
 use Rattle.leaf_reader.proofs.front.take_front.Goals.{After-reverse}
@@ -23,3 +24,6 @@ returns-clause-rest c =
     ap (λ left. reverse (token_views left)) (c.in_ok-front.ensures.items)
     ∙ turned-rest token_view items c.in_ok-left.left _ (all c)
     ∙ ap (λ tokens. drop (front_length c.args.kind tokens) tokens) c.source.view_is
+
+pub invariant_of-source-2 : goal.invariant_of-source-2
+invariant_of-source-2 c = rw c.in_ok-front.ensures.items (fewer_items _ _ _ c.source.invariant)
