@@ -1,0 +1,16 @@
+//! What is called, created and selected, and what is refused of it.
+#![tactic(auto)]
+
+mod called;
+mod callee;
+mod created;
+mod looked_up;
+mod selected;
+mod selection;
+
+pub use called::{named_callee, qualified_callee};
+pub use callee::{Call, Callee};
+pub use created::{Creation, created_callee};
+pub use looked_up::value_callee;
+pub use selected::Use;
+pub use selection::{selected_callee, selected_of_class};
