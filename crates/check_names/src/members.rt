@@ -6,9 +6,8 @@ ghost use Rattle.vdm_kinds.specs.declared.name.Name.{Name as NameNumber};
 ghost use Rattle.abstract_syntax.specs.Classes.{operations_in};
 ghost use Rattle.class_meaning.specs.Classes.{class_number};
 ghost use Rattle.class_meaning.specs.Members.{of_function, of_operation, members_in};
-ghost use Rattle.class_checks.specs.Callees.{has_constructor as class_has_constructor, has_some_called as some_called, is_constructor as is_constructor_of};
+ghost use Rattle.class_checks.specs.Callees.{has_called, has_constructor as class_has_constructor, has_some_called as some_called, is_called, is_constructor as is_constructor_of};
 ghost use Rattle.class_checks.specs.Members.{has_synchronised as class_has_synchronised, has_synchronised_of, is_counted, is_synchronised as is_synchronised_in};
-ghost use Rattle.check_names.specs.Named.{has_named, is_named};
 ghost use Rattle.spec_table.specs.Meanings.{class_named};
 ghost use Rattle.spec_table.specs.Tables.{table_spec};
 ghost use Rattle.vdm_tree.specs.ClassView.{block_view, class_view, function_view, operation_view};
@@ -129,7 +128,7 @@ pub fn has_some_called(table: &ClassTable, class: Name, name: Name) -> bool
 }
 
 fn any_called(table: &ClassTable, line: &[Name], name: Name) -> bool
-    ensures { result ≡ list_any (λ (class : NameNumber). has_named name (class_named (table_spec table.now) class)) line.now }
+    ensures { result ≡ list_any (λ (class : NameNumber). has_called name (class_named (table_spec table.now) class)) line.now }
 {
     for class in line {
         if is_called_there(table, *class, name) {
@@ -140,7 +139,7 @@ fn any_called(table: &ClassTable, line: &[Name], name: Name) -> bool
 }
 
 fn is_called_there(table: &ClassTable, class: Name, name: Name) -> bool
-    ensures { result ≡ has_named name (class_named (table_spec table.now) class) }
+    ensures { result ≡ has_called name (class_named (table_spec table.now) class) }
 {
     match table.number(class) {
         Some(_) => has_called_itself(table.class(class), name),
@@ -149,7 +148,7 @@ fn is_called_there(table: &ClassTable, class: Name, name: Name) -> bool
 }
 
 fn has_called_itself(class: &ClassDef, name: Name) -> bool
-    ensures { result ≡ has_named name (Some (class_view class.now)) }
+    ensures { result ≡ has_called name (Some (class_view class.now)) }
 {
     for block in &class.blocks {
         if some_called_in(block, name) {
@@ -160,7 +159,7 @@ fn has_called_itself(class: &ClassDef, name: Name) -> bool
 }
 
 fn some_called_in(block: &Block, name: Name) -> bool
-    ensures { result ≡ list_any (is_named name) (members_in (block_view block.now)) }
+    ensures { result ≡ list_any (is_called name) (members_in (block_view block.now)) }
 {
     match block {
         Block::Functions(definitions, _) => some_function(definitions.as_slice(), name),
@@ -174,7 +173,7 @@ fn some_called_in(block: &Block, name: Name) -> bool
 }
 
 fn some_function(definitions: &[FunctionDef], name: Name) -> bool
-    ensures { result ≡ list_any (is_named name) (map of_function (map function_view definitions.now)) }
+    ensures { result ≡ list_any (is_called name) (map of_function (map function_view definitions.now)) }
 {
     for definition in definitions {
         if name.0 == definition.name.0 {
@@ -185,7 +184,7 @@ fn some_function(definitions: &[FunctionDef], name: Name) -> bool
 }
 
 fn some_operation(definitions: &[OpDef], name: Name) -> bool
-    ensures { result ≡ list_any (is_named name) (map of_operation (map operation_view definitions.now)) }
+    ensures { result ≡ list_any (is_called name) (map of_operation (map operation_view definitions.now)) }
 {
     for definition in definitions {
         if name.0 == definition.name.0 {

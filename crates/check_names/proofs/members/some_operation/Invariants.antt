@@ -1,11 +1,11 @@
 use Rattle.std.proofs.Common.{◌≡◌, map, drop}
 use Rattle.std.specs.List.{list_any}
 use Rattle.class_meaning.specs.Members.{of_operation}
-use Rattle.check_names.specs.Named.{is_named}
+use Rattle.class_checks.specs.Callees.{is_called}
 use Rattle.vdm_tree.specs.ClassView.{operation_view}
 use Rattle.check_names.proofs.members.some_operation.Given as goal
 
 abbrev pub invariant-loop-definition : goal.invariant-loop-definition
 invariant-loop-definition l =
-    list_any (is_named l.name) (map of_operation (map operation_view (drop l.definition-index l.definitions)))
-    ≡ list_any (is_named l.name) (map of_operation (map operation_view l.definitions))
+    list_any (is_called l.name) (map of_operation (map operation_view (drop l.definition-index l.definitions)))
+    ≡ list_any (is_called l.name) (map of_operation (map operation_view l.definitions))
