@@ -1,0 +1,6 @@
+mod Counts
+mod Waiting
+mod Shapes
+mod PatternSizes
+mod RefusedTurns
+mod ScopeTurns

@@ -1,0 +1,24 @@
+//! What patterns bind, by forms; what is refused of the records in them; and the expressions in brackets in them.
+#![tactic(auto)]
+
+mod binding;
+mod bound;
+mod brackets;
+mod inner_forms;
+mod local_form;
+mod one_or_many;
+mod pending;
+mod records;
+mod refused;
+mod scoping;
+mod several;
+mod tuples;
+
+pub use binding::{binds, binds_each};
+pub use brackets::{givens, givens_in};
+pub use inner_forms::elements_of;
+pub use local_form::LocalForm;
+pub use one_or_many::Patterns;
+pub use refused::{pattern_faults, patterns_faults};
+pub use scoping::inside;
+pub use several::scopes_behind;
