@@ -15,7 +15,7 @@ use Rattle.abstract_syntax.specs.Classes.{FieldTree, TypeBody, same_as, with_fie
 use Rattle.class_meaning.specs.Classes.{class_number}
 use Rattle.class_meaning.specs.Members.{of_value, of_operation}
 use Rattle.class_meaning.specs.declared.ask.Ask.TheVariants.{ByName, Called}
-use Rattle.member_meaning.specs.Meaning.{Meant, ambiguous, meant, meaning}
+use Rattle.member_meaning.specs.Meaning.{Meant, unknown, ambiguous, meant, meaning}
 use Rattle.form_meaning.specs.Forms.{FormTree, any_form, no_form, record_alt, only}
 use Rattle.class_checks.specs.Callees.{has_some_called}
 use Rattle.class_checks.specs.Expressions.{check, want_faults, givens}
@@ -225,11 +225,12 @@ module _ (spec : SpecTree) (class : Name) where
   phase_faults period (Some phase) =
       tick_faults 0 most_ticks phase.jitter ++ (tick_faults 0 (delay_most (number_of period)) phase.delay ++ tick_faults 0 most_ticks phase.offset)
 
-  -- the operation that each release calls has no parameters
+  -- what each release calls is an operation without parameters; what is found of the name and is no operation is not it
   abbrev pub released_faults : Name → Place → Place → ℕ → Meant → List SpecFault
   released_faults name name_place place k (meant owner (of_operation o)) = operation_faults spec (in_class class Free) name_place true owner o.access
+  released_faults name name_place place k (meant owner other) = refusal UnknownName name_place ∷ []
   released_faults name name_place place k ambiguous = refusal Ambiguous name_place ∷ []
-  released_faults name name_place place k _ =
+  released_faults name name_place place k unknown =
       if has_some_called spec name k then refusal WrongArity place ∷ [] else refusal UnknownName name_place ∷ []
 
   abbrev pub release_faults : Name → Place → Place → Option ℕ → List SpecFault

@@ -1,0 +1,2 @@
+pub mod Behinds
+pub mod Bracketed

@@ -1,0 +1,4 @@
+pub mod Begun
+pub mod Called
+pub mod Making
+pub mod Views

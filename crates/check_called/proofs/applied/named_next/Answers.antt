@@ -1,0 +1,11 @@
+use Rattle.std.proofs.Common.{length}
+use Rattle.class_checks.specs.Callees.{named_callee}
+use Rattle.check_scopes.specs.Told.{first_in, spec_in}
+use Rattle.check_frames.specs.Meant.{scope_here}
+use Rattle.check_frames.specs.declared.rest.Rest.TheVariants.{Items}
+use Rattle.check_steps.specs.Calls.{called_on}
+use Rattle.check_called.proofs.applied.named_next.Goals as goal
+
+pub returns : goal.returns
+returns c =
+    called_on c.args.here.setting c.called_next.result (scope_here c.args.here) (Items c.args.arguments) (first_in c.args.refusals.now) (first_in c.named_callee.new.refusals) c.in_ok-callee.callee (named_callee (spec_in c.args.here.setting) (scope_here c.args.here) c.args.named.name c.args.named.place (length c.args.arguments.now) c.args.place) c.in_ok-callee.ensures c.called_next.ensures

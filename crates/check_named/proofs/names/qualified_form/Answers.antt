@@ -1,0 +1,11 @@
+use Rattle.std.proofs.Common.{ap, ◌∙◌}
+use Rattle.shared_names.specs.Maps.{held}
+use Rattle.check_scopes.specs.Told.{first_in, told}
+use Rattle.check_names.proofs.Notes.{if_ok}
+use Rattle.check_frames.specs.Meant.{scope_here}
+use Rattle.check_named.proofs.Begun.{qualified_begun}
+use Rattle.check_named.proofs.names.qualified_form.Goals as goal
+
+pub returns : goal.returns
+returns c =
+    if_ok c.read_qualified.result c.read_qualified.ensures (λ form told_so. ap (told (first_in c.args.refusals.now)) (qualified_begun c.args.here.setting (scope_here c.args.here) c.args.class c.args.name c.args.name_place c.args.place) ∙ told_so (held c.args.here.locals.now))

@@ -1,0 +1,11 @@
+use Rattle.std.proofs.Common.{ap, ◌∙◌}
+use Rattle.shared_names.specs.Maps.{held}
+use Rattle.check_scopes.specs.Told.{first_in, told}
+use Rattle.check_names.proofs.Notes.{if_ok}
+use Rattle.check_frames.specs.Meant.{scope_here}
+use Rattle.check_named.proofs.Begun.{self_begun}
+use Rattle.check_named.proofs.names.self_form.Goals as goal
+
+pub returns : goal.returns
+returns c =
+    if_ok c.read_self.result c.read_self.ensures (λ form told_so. ap (told (first_in c.args.refusals.now)) (self_begun c.args.here.setting (scope_here c.args.here) c.args.place) ∙ told_so (held c.args.here.locals.now))

@@ -1,0 +1,7 @@
+pub mod Begun
+pub mod Calls
+pub mod Firsts
+pub mod Listed
+pub mod Placed
+pub mod Scoped
+pub mod Viewed
