@@ -9,10 +9,10 @@ ghost use Rattle.spec_table.specs.Tables.{table_spec};
 ghost use Rattle.check_scopes.specs.Told.{first_in, scope_view, told};
 ghost use Rattle.check_frames.specs.Meant.{scope_here, spec_here};
 
+use crate::exprs::expr_next;
 use crate::run::run;
 use crate::state::State;
 use check_frames::Here;
-use check_kinds::expr_next;
 use check_scopes::{Refusals, Scope, Setting};
 use expr_tree::Expr;
 use spec_table::ClassTable;

@@ -2,6 +2,7 @@
 #![tactic(auto)]
 
 mod check;
+mod exprs;
 mod run;
 mod state;
 mod turn;

@@ -8,9 +8,9 @@ ghost use Rattle.check_scopes.specs.Told.{first_in, spec_in, told};
 ghost use Rattle.check_frames.specs.Meant.{at, next_check, under};
 ghost use Rattle.type_check.specs.Checks.{state_check, turn_check};
 
+use crate::exprs::expr_next;
 use crate::state::{State, Turn};
 use check_frames::{Frame, Here, Next};
-use check_kinds::expr_next;
 use check_parts::{after_next, frame_next};
 use check_scopes::{Locals, Refusals, Setting};
 use expr_tree::Expr;

@@ -1,7 +1,7 @@
 use Rattle.std.proofs.Common.{refl}
 use Rattle.check_scopes.specs.Told.{first_in}
 use Rattle.check_frames.specs.Steps.{told_next}
-use Rattle.check_kinds.proofs.exprs.expr_next.Goals as goal
+use Rattle.type_check.proofs.exprs.expr_next.Goals as goal
 
 pub returns-in-Plain : goal.returns-in-Plain
 returns-in-Plain c =

@@ -16,7 +16,7 @@ use expr_tree::Expr;
 use vdm_kinds::OutOfMemory;
 
 /// What comes first of an expression.
-pub fn expr_next<'t>(
+pub(crate) fn expr_next<'t>(
     here: Here<'_>,
     expr: &'t Expr,
     refusals: &mut Refusals,
