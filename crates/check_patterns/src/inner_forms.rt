@@ -20,11 +20,7 @@ pub fn elements_of(alloc: Global, setting: Setting<'_>, form: &Form) -> Result<F
 }
 
 /// The form of an item of a sequence.
-pub(crate) fn items_of(
-    alloc: Global,
-    setting: Setting<'_>,
-    form: &Form,
-) -> Result<Form, OutOfMemory>
+pub fn items_of(alloc: Global, setting: Setting<'_>, form: &Form) -> Result<Form, OutOfMemory>
     ensures { IfOk result (λ f. f ≡ items_of (spec_in setting.entry) form.now) }
 {
     let want = any_sequence(alloc)?;

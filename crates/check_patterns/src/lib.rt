@@ -16,7 +16,7 @@ mod tuples;
 
 pub use binding::{binds, binds_each};
 pub use brackets::{givens, givens_in};
-pub use inner_forms::elements_of;
+pub use inner_forms::{elements_of, items_of};
 pub use local_form::LocalForm;
 pub use one_or_many::Patterns;
 pub use refused::{pattern_faults, patterns_faults};

@@ -1,5 +1,4 @@
 pub mod Callees
-pub mod Definitions
 pub mod Expressions
 pub mod Members
 pub mod Operators
@@ -7,8 +6,6 @@ pub mod Patterns
 pub mod Results
 pub mod Scopes
 pub mod Shapes
-pub mod Statements
-pub mod Targets
 pub mod TypeNames
 pub mod WellTyped
 pub mod Worked

@@ -1,5 +1,5 @@
 -- Where an expression stands: its class, what is bound there, and what it may reach.
-use Rattle.std.specs.Prelude.{ℕ, Bool, if◌then◌else◌, List, [], ◌∷◌, Option, Some, None}
+use Rattle.std.specs.Prelude.{ℕ, Bool, false, if◌then◌else◌, List, [], ◌∷◌, Option, Some, None}
 use Rattle.std.specs.Option.{option_and_then}
 use Rattle.vdm_kinds.specs.NameList.{io}
 use Rattle.vdm_kinds.specs.declared.name.Name.{Name}
@@ -7,6 +7,7 @@ use Rattle.abstract_syntax.specs.Classes.{SpecTree, is_same_name}
 use Rattle.class_meaning.specs.Classes.{class_number}
 use Rattle.form_meaning.specs.Forms.{FormTree}
 use Rattle.class_checks.specs.declared.reach.Reach.{Reach}
+use Rattle.class_checks.specs.declared.reach.Reach.TheVariants.{Free}
 
 -- the form of each name that a pattern, a parameter or a declaration binds
 abbrev pub Locals : Type 0
@@ -61,3 +62,7 @@ types_from (Some class) = class
 
 abbrev pub type_scope : ScopeTree → Name
 type_scope scope = types_from scope.class
+
+-- the expression of a run stands in no class
+abbrev pub of_run : ScopeTree
+of_run = record { class = None; locals = nothing_bound; result = None; old = false; object = false; reach = Free }

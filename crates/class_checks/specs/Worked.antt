@@ -9,8 +9,7 @@ use Rattle.abstract_syntax.specs.Literals.{whole_literal, boolean_literal}
 use Rattle.abstract_syntax.specs.Expressions.{ExprTree, literal, named, prefixed, joined, set_enumeration, sequence_enumeration, make_tuple, apply, select, create, ExprTrees, no_exprs, one_expr, PatternTree, bound, PatternTrees, no_patterns, one_pattern, BindTree, bind_in}
 use Rattle.abstract_syntax.specs.Classes.{SpecTree}
 use Rattle.class_meaning.specs.Worked.{name, spec}
-use Rattle.class_checks.specs.Definitions.{of_run}
-use Rattle.class_checks.specs.Scopes.{ScopeTree}
+use Rattle.class_checks.specs.Scopes.{ScopeTree, of_run}
 use Rattle.class_checks.specs.declared.reach.Reach.{Reach}
 
 abbrev pub at : ℕ → Place

@@ -10,9 +10,9 @@ ghost use Rattle.abstract_syntax.specs.Types.{basic_type, seq_type};
 ghost use Rattle.abstract_syntax.specs.Expressions.{bracketed, qualified, undefined, self_object, current_time, history, select_part, let_in, one_defined, no_defined, tuple_pattern, literal_pattern, set_comprehension, one_bind, no_binds, left_out, cases_of, one_case, no_cases, if_else, no_branches, iota_of, for_all, map_enumeration, one_maplet, no_maplets};
 ghost use Rattle.class_meaning.specs.Worked.{name, a, v, f, only, has_v, has_f};
 ghost use Rattle.vdm_kinds.specs.declared.access.Level.TheVariants.{Private, Public};
-ghost use Rattle.class_checks.specs.Definitions.{main_fault};
 ghost use Rattle.class_checks.specs.Expressions.{check};
 ghost use Rattle.class_checks.specs.Results.{first_fault};
+ghost use Rattle.class_checks.specs.WellTyped.{main_fault};
 ghost use Rattle.class_checks.specs.Worked.{at, nothing, refused, reaching, whole, yes_at, x, y, named_at, both, before, set_of, sequence_of, tuple_of, applied_to, new_at, member, bound_at, patterns, in_set};
 ghost use Rattle.class_checks.specs.declared.reach.Reach.TheVariants.{Free, Init, Pure, Guard, Inv};
 

@@ -1,7 +1,6 @@
 use Rattle.std.proofs.Common.{ap, sym, ◌∙◌}
 use Rattle.vdm_kinds.specs.declared.name.Name.{Name}
 use Rattle.type_tree.specs.TypeView.{type_view}
-use Rattle.class_checks.specs.Definitions.{declared}
 use Rattle.class_checks.specs.Expressions.{want_faults}
 use Rattle.class_checks.specs.Results.{first_among}
 use Rattle.class_checks.specs.TypeNames.{form_of, type_faults}

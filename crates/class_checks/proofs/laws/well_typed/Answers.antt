@@ -1,4 +1,4 @@
-use Rattle.class_checks.specs.Definitions.{of_run, spec_faults}
+use Rattle.class_checks.specs.Scopes.{of_run}
 use Rattle.class_checks.specs.Expressions.{check}
 use Rattle.class_checks.proofs.Firsts.{none_first}
 use Rattle.class_checks.proofs.laws.well_typed.Goals as goal
@@ -8,6 +8,3 @@ returns-clause-none c = λ spec scope e. none_first (check spec scope e).refusal
 
 pub returns-clause-main : goal.returns-clause-main
 returns-clause-main c = λ spec e. none_first (check spec of_run e).refusals
-
-pub returns-clause-specification : goal.returns-clause-specification
-returns-clause-specification c = λ spec. none_first (spec_faults spec)

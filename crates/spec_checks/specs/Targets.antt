@@ -122,6 +122,43 @@ unwritten refusals = record { form = any_form; owned = nothing_owned; refusals =
 abbrev pub owner_of : ℕ → Access → Owned
 owner_of owner access = if access.is_static then of_class_object owner else of_self
 
+abbrev pub target_steps : TargetTree → List TargetStepTree
+target_steps (variable name steps place) = steps
+target_steps (variable_of_class class name name_place steps place) = steps
+
+-- ---- several at once
+
+abbrev pub go_together : Owned → Owned → Bool
+go_together of_self of_self = true
+go_together (of_class_object a) (of_class_object b) = nat_eq a b
+go_together _ _ = false
+
+abbrev pub is_apart : Owned → Owned → Bool
+is_apart first nothing_owned = false
+is_apart nothing_owned a_local = true
+is_apart nothing_owned other = false
+is_apart first other = not (go_together first other)
+
+abbrev pub first_owned : Owned → Owned → Owned
+first_owned of_self other = of_self
+first_owned (of_class_object a) other = of_class_object a
+first_owned _ of_self = of_self
+first_owned _ (of_class_object a) = of_class_object a
+first_owned _ _ = nothing_owned
+
+module _ (spec : SpecTree) where
+  abbrev pub has_this_field : Name → AltTree → Bool
+  has_this_field name (record_alt class record_name) = is_some (field_form spec class record_name name)
+  has_this_field name _ = false
+
+  abbrev pub field_taken : Name → AltTree → FormTree
+  field_taken name (record_alt class record_name) = field_or_none (field_form spec class record_name name)
+  field_taken name _ = no_form
+
+  abbrev pub stepped : Bool → FormTree → FormTree
+  stepped true form = opened spec form
+  stepped false form = any_form
+
 module _ (spec : SpecTree) (scope : StmtScope) where
   abbrev pub written_member : Place → Bool → ℕ → Member → Written
   written_member place own owner (of_variable v) = record {
@@ -157,33 +194,17 @@ module _ (spec : SpecTree) (scope : StmtScope) where
 
   -- ---- the steps into it
 
-  abbrev pub has_this_field : Name → AltTree → Bool
-  has_this_field name (record_alt class record_name) = is_some (field_form spec class record_name name)
-  has_this_field name _ = false
-
-  abbrev pub field_taken : Name → AltTree → FormTree
-  field_taken name (record_alt class record_name) = field_or_none (field_form spec class record_name name)
-  field_taken name _ = no_form
-
-  abbrev pub stepped : Bool → FormTree → FormTree
-  stepped true form = opened spec form
-  stepped false form = any_form
-
   -- `place` is the target's, where it is refused that there is no such part
   abbrev pub steps_in : Place → FormTree → List TargetStepTree → (FormTree → Checked) → Checked
   steps_in place form [] rest = rest form
   steps_in place form (field_of name name_place step_place ∷ steps) rest =
-      refusing (refused_if (not (any_or_some (has_this_field name) form)) NoCommonValue place)
-      (steps_in place (stepped (any_or_some (has_this_field name) form) (taken (field_taken name) form)) steps rest)
+      refusing (refused_if (not (any_or_some (has_this_field spec name) form)) NoCommonValue place)
+      (steps_in place (stepped spec (any_or_some (has_this_field spec name) form) (taken (field_taken spec name) form)) steps rest)
   steps_in place form (element_at index step_place ∷ steps) rest =
       refusing (want_faults spec sequence_or_map place form)
       (after (check spec scope.within index) (λ (key : FormTree).
       refusing (want_faults spec (key_want spec form) (expr_place index) key)
       (steps_in place (looked_up spec form) steps rest)))
-
-  abbrev pub target_steps : TargetTree → List TargetStepTree
-  target_steps (variable name steps place) = steps
-  target_steps (variable_of_class class name name_place steps place) = steps
 
   -- the target, the value behind it, and then the rest
   abbrev pub assigned : AssignmentTree → Checked → Checked
@@ -193,24 +214,6 @@ module _ (spec : SpecTree) (scope : StmtScope) where
       refusing (want_faults spec form (expr_place assignment.value) value) rest)))
 
   -- ---- several at once: variables of the object itself, or static ones of one class
-
-  abbrev pub go_together : Owned → Owned → Bool
-  go_together of_self of_self = true
-  go_together (of_class_object a) (of_class_object b) = nat_eq a b
-  go_together _ _ = false
-
-  abbrev pub is_apart : Owned → Owned → Bool
-  is_apart first nothing_owned = false
-  is_apart nothing_owned a_local = true
-  is_apart nothing_owned other = false
-  is_apart first other = not (go_together first other)
-
-  abbrev pub first_owned : Owned → Owned → Owned
-  first_owned of_self other = of_self
-  first_owned (of_class_object a) other = of_class_object a
-  first_owned _ of_self = of_self
-  first_owned _ (of_class_object a) = of_class_object a
-  first_owned _ _ = nothing_owned
 
   -- the first that is of the object or of a class decides for all behind it
   abbrev pub apart_faults : Owned → List AssignmentTree → List SpecFault

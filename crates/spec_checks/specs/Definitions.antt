@@ -1,5 +1,5 @@
--- The check of a specification: what is refused in the definitions of its classes; and of the expression of a run. ('Classes' and
--- 'Synchronisation' of the VDM-10 Language Manual (Overture).)
+-- The check of a specification: what is refused in the definitions of its classes. ('Classes' and 'Synchronisation' of the VDM-10
+-- Language Manual (Overture).)
 use Rattle.std.specs.Prelude.{ℕ, ℤ, pos, negsuc, Bool, true, false, not, ◌&&◌, nat_lt, if◌then◌else◌, List, [], ◌∷◌, ◌++◌, Option, Some, None}
 use Rattle.std.specs.List.{flat_map}
 use Rattle.vdm_kinds.specs.declared.access.Access.{Access}
@@ -22,10 +22,10 @@ use Rattle.class_checks.specs.Expressions.{check, want_faults, givens}
 use Rattle.class_checks.specs.Members.{operation_faults, is_counted, uncounted}
 use Rattle.class_checks.specs.Operators.{truth}
 use Rattle.class_checks.specs.Patterns.{binds, pattern_faults}
-use Rattle.class_checks.specs.Results.{refusal, refused_if, first_among, first_fault, gives}
+use Rattle.class_checks.specs.Results.{refusal, refused_if, first_among, gives}
 use Rattle.class_checks.specs.Scopes.{LocalForm, ScopeTree, nothing_bound, inside, type_scope}
-use Rattle.class_checks.specs.Statements.{check_stmt}
-use Rattle.class_checks.specs.Targets.{Returned, anything, no_value, a_value, nothing_declared}
+use Rattle.spec_checks.specs.Statements.{check_stmt}
+use Rattle.spec_checks.specs.Targets.{Returned, anything, no_value, a_value, nothing_declared}
 use Rattle.class_checks.specs.TypeNames.{form_of, type_faults}
 use Rattle.class_checks.specs.declared.reach.Reach.{Reach}
 use Rattle.class_checks.specs.declared.reach.Reach.TheVariants.{Free, Init, Pure, Guard, Inv}
@@ -56,10 +56,6 @@ afterwards scope result old = record {
   object = scope.object;
   reach = scope.reach;
 }
-
--- the expression of a run stands in no class
-abbrev pub of_run : ScopeTree
-of_run = record { class = None; locals = nothing_bound; result = None; old = false; object = false; reach = Free }
 
 module _ (spec : SpecTree) (class : Name) where
   -- ---- expressions of definitions
@@ -274,7 +270,3 @@ spec_faults spec = flat_map (class_faults spec) spec.classes
 -- the first in text order
 abbrev pub spec_fault : SpecTree → Option SpecFault
 spec_fault spec = first_among None (spec_faults spec)
-
--- the first in the expression of a run
-abbrev pub main_fault : SpecTree → ExprTree → Option SpecFault
-main_fault spec e = first_fault (check spec of_run e)

@@ -25,7 +25,7 @@ use Rattle.class_checks.specs.Patterns.{binds, bindings_of, items_of, pattern_fa
 use Rattle.class_checks.specs.Results.{Checked, gives, refused_if, refusing, after, after_each}
 use Rattle.class_checks.specs.Scopes.{LocalForm, ScopeTree, inside, type_scope}
 use Rattle.class_checks.specs.Shapes.{any_or_some}
-use Rattle.class_checks.specs.Targets.{
+use Rattle.spec_checks.specs.Targets.{
   Returned,
   anything,
   no_value,
@@ -54,6 +54,19 @@ moved scope within names = record { within = within; declared = hidden_by names 
 abbrev pub maybe_of : Option ExprTree → MaybeExpr
 maybe_of None = left_out
 maybe_of (Some e) = given_expr e
+
+abbrev pub is_object : AltTree → Bool
+is_object (object_alt class) = true
+is_object _ = false
+
+abbrev pub inside_names : StmtScope → List LocalForm → List Name → StmtScope
+inside_names scope found names = moved scope (inside scope.within found) names
+
+abbrev pub one_of_patterns : PatternTree → PatternTrees
+one_of_patterns p = one_pattern p no_patterns
+
+abbrev pub bind_names : BindTree → List Name
+bind_names (bind_in patterns set) = patterns_names patterns
 
 module _ (spec : SpecTree) where
   -- ---- what is given back
@@ -104,26 +117,13 @@ module _ (spec : SpecTree) where
   maybe_wanting scope wanted None rest = rest
   maybe_wanting scope wanted (Some e) rest = wanting scope wanted e rest
 
-  abbrev pub is_object : AltTree → Bool
-  is_object (object_alt class) = true
-  is_object _ = false
-
-  abbrev pub inside_names : StmtScope → List LocalForm → List Name → StmtScope
-  inside_names scope found names = moved scope (inside scope.within found) names
-
   -- a pattern over a value of a form
   abbrev pub inside_pattern : StmtScope → FormTree → PatternTree → StmtScope
   inside_pattern scope form pattern = inside_names scope (binds spec (type_scope scope.within) form pattern) (pattern_names pattern)
 
-  abbrev pub one_of_patterns : PatternTree → PatternTrees
-  one_of_patterns p = one_pattern p no_patterns
-
-  abbrev pub bind_names : BindTree → List Name
-  bind_names (bind_in patterns set) = patterns_names patterns
-
   -- ---- by kinds
 
-  abbrev mutual
+  unfoldable mutual
     pub check_stmt : StmtScope → StmtTree → Checked
     check_stmt scope (block locals statements place) =
         dcls_in scope locals (λ (within : StmtScope). check_stmts within statements)

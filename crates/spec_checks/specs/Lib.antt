@@ -1,0 +1,4 @@
+pub mod Definitions
+pub mod Statements
+pub mod Targets
+pub mod WellTyped
