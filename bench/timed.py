@@ -1,4 +1,4 @@
-"""What bench/sets, bench/lex, bench/grammar, bench/classes, bench/tables, bench/operators, bench/texts and bench/patterns
+"""What bench/sets, bench/lex, bench/grammar, bench/classes, bench/tables, bench/checks, bench/operators, bench/texts and bench/patterns
 share: the program `rows` is built and asked, and its lines are read."""
 import statistics
 import subprocess

@@ -138,6 +138,7 @@ MANY = 1_000_000
 CHANGES = {"unset": "no-initial", "apart": "blocks-apart"}
 # What may stand behind the text of a request on a table of classes.
 MEMBER, MAYBE = re.compile(r"[\w']+"), re.compile(r"-|[\w']+")
+FLAGS = re.compile(r"-|[a-z]+(,[a-z]+)*")
 COUNT, LEVEL = re.compile(r"[0-9]+"), re.compile(r"private|protected|public")
 OPERATION = [MEMBER, MEMBER, COUNT]
 STREAMS = re.compile(r"([0-9]+) (-|[0-9,]+), ([0-9]+) ([0-9]+) (-|[0-9,]+)")
@@ -237,6 +238,15 @@ def hosted(line, asked):
     line.put(str(len(rows)))
     for it in rows:
         put_asked(line, it, OPERATION)
+
+
+def check(line, asked):
+    """check TEXT-OR-none %| CLASS-OR-- FLAGS-OR-- %| EXPR, where the flags, with a comma between each two, say what there is at the
+    place of the expression, and what may be reached there: `row_checks` says which there are"""
+    text, place, expr = parts_of(asked, 3, 3)
+    line.put(word_of(text_or_none(text)))
+    put_asked(line, place, [MAYBE, FLAGS])
+    line.put(word_of(expr))
 
 
 def put_asked(line, asked, kinds):
@@ -519,6 +529,7 @@ REQUESTS = {
     "cuts": cuts,
     **dict.fromkeys(ASKED, table),
     "hosted": hosted,
+    "check": check,
     "main": main,
     "time": time,
     **dict.fromkeys(["order", "rising", "apart", "same", "taken", "size", "value", "part"], values),

@@ -1,8 +1,9 @@
 """The forms of the cases that examples/check runs.
 
 A case says on which words and which standard input the program runs, what it must print, and with which status it must
-end. It is a file, a row of a table or a folder. What a second program, the driver, must answer is a row of its own
-kind. A name is there once: where two cases have one name, or a case that of a table, the second is no case.
+end. It is a file, a row of a table or a folder; the examples of a page are tables too. What a second program, the
+driver, must answer is a row of its own kind. A name is there once: where two cases have one name, or a case that of a
+table, the second is no case.
 
 **A file, `cases/NAME.vdmpp`.** The text above its first line that begins with `--!` is standard input, to the byte.
 Then comes the footer, which the program never sees, and what stands below the footer is what standard output must get,
@@ -27,14 +28,20 @@ is written out as TEXT N times, where each @ in TEXT is the number of the turn, 
 
 **A row of a table, `tables/TOPIC.table`.** The program gets words and standard input, and standard output must get the
 answer. A request begins in column 1, and below it stands its answer, each line behind four blanks. A line that begins
-with `#` is a comment, and an empty line is nothing. The comment right above a request is one word, the row's name. The
-first line that is no comment says what each request of the table is; standard input gives nothing but under `check`:
+with `#` is a comment, and an empty line is nothing. A comment right above a request is one word, the row's name; a row
+without one is named TOPIC:LINE, with the number of the line of its request. The first line that is no comment says what
+each request of the table is; standard input gives nothing but where it is the TEXT or of so many BYTES:
 
-    vdm run EXPR              the word behind `run`, as it stands
+    vdm run EXPR              the word behind `run`
     vdm WORDS                 `vdm` and words, as in the footer of a file
-    vdm check TEXT            standard input, where `\n` is a line feed and `\\` a backslash; before, each `%{N TEXT%}`
-                              is written out as in words
+    vdm check TEXT            standard input, where `\n` is a line feed and `\\` a backslash
+    vdm run WORD TEXT         standard input likewise; WORD is the word behind `run` itself, as in `vdm run 1 TEXT`
+    vdm run EXPR %| TEXT      the word behind `run`, and behind ` %| ` standard input likewise
     vdm check BYTES           how many bytes standard input gives, the first of `counter.vdmpp`
+
+A line `let NAME = TEXT` in column 1, without an answer, defines a text for the lines below it. In requests and in such
+texts each `${NAME}` is first replaced by the text of that name, and then each `%{N TEXT%}` is written out as in words,
+where TEXT has no other in it; in answers `${NAME}` alone is.
 
 The status that is wanted goes with the first word of the answer's last line: `result:` and `checked:` 0, `refused:` 1,
 `usage:` 2, `fault:` 3, `read` 6.
@@ -50,16 +57,19 @@ has a line feed. Each file of the folder may be missing:
     status    the exit status that is wanted; no file: 0
     setup     lines as in the footer of a file, from `stdin blanks` on, without the mark
 
+**An example of a page, `docs/REFUSALS.md`.** Each block of code of the page is a table, whose first line says what its
+requests are. The rows are named REFUSALS:LINE.
+
 **A row of the driver, `rows/TOPIC.rows`.** The driver reads requests, a line each, and prints one line for each.
-Requests, comments and empty lines are as in a table, and an answer is one line. The row's name is TOPIC:LINE, with the
-number of the line of its request. `let NAME = TEXT` in column 1 defines a text for the lines below it. In requests and
-in such texts each `${NAME}` is first replaced by the text of that name, and then each `%{N TEXT%}` is written out as in
-words, where TEXT has no other in it; in answers `${NAME}` alone is. Then `driver.py`, which says what requests there
-are, puts the request into words for the driver, and what the driver answers back into the notation of rows.
+Requests, comments, empty lines and texts that are defined are as in a table, and an answer is one line. The row's name
+is TOPIC:LINE. `driver.py`, which says what requests there are, puts the request into words for the driver, and what the
+driver answers back into the notation of rows.
 """
 import re
 import shlex
 from contextlib import contextmanager
+from functools import partial
+from itertools import takewhile
 from pathlib import Path
 from typing import NamedTuple
 
@@ -70,6 +80,7 @@ FILES = {"args", "word", "stdin", "stdout", "status", "setup"}
 STATUSES = {"result:": 0, "checked:": 0, "refused:": 1, "usage:": 2, "fault:": 3, "read": 6}
 NO_LINE_FEED = "no last line feed"
 INDENT = "    "
+FENCE = "```"
 # Above its first line that begins with the mark, the lines that do, and the rest.
 PARTS = re.compile(r"((?:(?!--!).*\n)*)((?:--!.*(?:\n|\Z))+)((?s:.*))")
 # Controls but the line feed, the no-break space, two further ends of lines, and the byte-order mark.
@@ -160,23 +171,32 @@ class FolderCase(Case):
 class TableRow(Case):
     kind = "rows of tables"
 
-    def __init__(self, path, entry, asked_by):
-        if len(entry.above.split()) != 1:
-            raise BadCase("no comment right above this request names it with one word")
-        super().__init__(path, entry.above, path.stem)
+    def __init__(self, path, asked_by, entry):
+        if len(entry.above.split()) > 1:
+            raise BadCase("the comment right above this request is no name, since it has more than one word")
+        super().__init__(path, entry.above or line_name(path, entry), path.stem)
         (self.words, self.text), self.status = asked_by(entry.text), status_of(entry.answer)
         self.stdout = "".join(f"{it}\n" for it in entry.answer).encode()
 
     @classmethod
     def read(cls, path):
-        first, *others = entries_of(path) or [Entry(1, "", "", [])]
-        if first.text not in REQUESTS or first.answer:
-            raise BadCase(f"line {first.line} should be one of: {', '.join(REQUESTS)}")
-        rows = []
-        for it in others:
-            with told_at(it.line):
-                rows.append(cls(path, it, REQUESTS[first.text]))
-        return rows
+        return cls.rows_of(path, entries_of(lines_with_numbers(path)))
+
+    @classmethod
+    def rows_of(cls, path, entries):
+        first, *others = entries or [Entry(1, "", "", [])]
+        asked_by = None if first.answer else request_of(first.text)
+        if not asked_by:
+            raise BadCase(f"line {first.line} should be one of: {', '.join(REQUESTS)}, vdm run WORD TEXT")
+        return rows_among(others, partial(cls, path, asked_by))
+
+
+class PageRow(TableRow):
+    @classmethod
+    def read(cls, path):
+        lines = lines_with_numbers(path)
+        blocks = (takewhile(is_no_fence, lines) for it in lines if not is_no_fence(it))
+        return [row for it in blocks for row in cls.rows_of(path, entries_of(it))]
 
 
 class DriverRow:
@@ -184,23 +204,15 @@ class DriverRow:
 
     kind = "rows of the driver"
 
-    def __init__(self, path, entry, texts):
-        self.path, self.name, self.topic = path, f"{path.stem}:{entry.line}", path.stem
+    def __init__(self, path, entry):
+        self.path, self.name, self.topic = path, line_name(path, entry), path.stem
         if len(entry.answer) != 1:
             raise BadCase(f"this request has {len(entry.answer)} lines of answer, and one is wanted")
-        self.request = asked(expanded(entry.text, texts)).encode()
-        self.answer = named(entry.answer[0], texts).encode()
+        self.request, self.answer = asked(entry.text).encode(), entry.answer[0].encode()
 
     @classmethod
     def read(cls, path):
-        texts, rows = {}, []
-        for it in entries_of(path):
-            with told_at(it.line):
-                if it.text.startswith("let "):
-                    define(it, texts)
-                else:
-                    rows.append(cls(path, it, texts))
-        return rows
+        return rows_among(entries_of(lines_with_numbers(path)), partial(cls, path))
 
 
 class Broken:
@@ -213,7 +225,12 @@ class Broken:
         self.why = f"{path.parent.name}/{path.name} cannot be run: {why}"
 
 
-FORMS = {("cases", ".vdmpp"): FileCase, ("tables", ".table"): TableRow, ("rows", ".rows"): DriverRow}
+FORMS = {
+    ("cases", ".vdmpp"): FileCase,
+    ("tables", ".table"): TableRow,
+    ("docs", ".md"): PageRow,
+    ("rows", ".rows"): DriverRow,
+}
 
 
 class Entry(NamedTuple):
@@ -234,9 +251,9 @@ def told_at(line):
 
 
 def all_cases(top):
-    """Returns the cases of the three folders below this one; what is no case is a Broken."""
+    """Returns the cases of the three folders below this one and of the page; what is no case is a Broken."""
     paths = [it for folder in ("cases", "tables", "rows") for it in sorted((top / folder).glob("[!.]*"))]
-    return once_each([case for path in paths for case in cases_of(path)])
+    return once_each([case for path in [*paths, top.parent / "docs/REFUSALS.md"] for case in cases_of(path)])
 
 
 def cases_of(path):
@@ -261,10 +278,35 @@ def once_each(cases):
     return kept
 
 
-def entries_of(path):
+def line_name(path, entry):
+    return f"{path.stem}:{entry.line}"
+
+
+def lines_with_numbers(path):
+    return enumerate(text_of(path).splitlines(), 1)
+
+
+def is_no_fence(numbered):
+    return not numbered[1].startswith(FENCE)
+
+
+def rows_among(entries, row):
+    """Returns the row of each request. What `let` defines is put for its name in the requests and answers below it."""
+    texts, rows = {}, []
+    for it in entries:
+        with told_at(it.line):
+            if it.text.startswith("let ") and not it.answer:
+                define(it.text, texts)
+            else:
+                answer = [named(line, texts) for line in it.answer]
+                rows.append(row(it._replace(text=expanded(it.text, texts), answer=answer)))
+    return rows
+
+
+def entries_of(lines):
     """Returns what stands in column 1 of a table, comments aside, with the answers."""
     entries, above, is_open = [], "", False
-    for number, line in enumerate(text_of(path).splitlines(), 1):
+    for number, line in lines:
         if line.startswith(INDENT) and is_open:
             entries[-1].answer.append(line.removeprefix(INDENT))
         elif line.startswith(" "):
@@ -307,13 +349,19 @@ def by_expression(text):
     return [b"run", text.encode()], b""
 
 
+def by_expression_over(text):
+    expression, bar, over = text.partition(" %| ")
+    if not bar:
+        raise BadCase("an expression and its text have ' %| ' between them")
+    return by_text([b"run", expression.encode()], over)
+
+
 def by_words(text):
     return words_of(text), b""
 
 
-def by_text(text):
-    written = re.sub(r"\\[n\\]", lambda found: "\n" if found[0] == "\\n" else "\\", written_out(text))
-    return [b"check"], written.encode()
+def by_text(words, text):
+    return words, re.sub(r"\\[n\\]", lambda found: "\n" if found[0] == "\\n" else "\\", text).encode()
 
 
 def by_bytes(text):
@@ -322,10 +370,18 @@ def by_bytes(text):
 
 REQUESTS = {
     "vdm run EXPR": by_expression,
+    "vdm run EXPR %| TEXT": by_expression_over,
     "vdm WORDS": by_words,
-    "vdm check TEXT": by_text,
+    "vdm check TEXT": partial(by_text, [b"check"]),
     "vdm check BYTES": by_bytes,
 }
+
+
+def request_of(line):
+    """Returns what makes the words and standard input of a request, or None where this line says no such thing."""
+    found = re.fullmatch(r"(vdm run .+) TEXT", line)
+    words = words_of(found[1]) if found else []
+    return partial(by_text, words) if len(words) == 2 else REQUESTS.get(line)
 
 
 def status_of(answer):
@@ -337,10 +393,10 @@ def status_of(answer):
     return STATUSES[first]
 
 
-def define(entry, texts):
-    found = re.fullmatch(r"let ([\w-]+) = (.+)", entry.text)
-    if not found or entry.answer:
-        raise BadCase("a text is defined by 'let NAME = TEXT', without an answer")
+def define(line, texts):
+    found = re.fullmatch(r"let ([\w-]+) = (.+)", line)
+    if not found:
+        raise BadCase("a text is defined by 'let NAME = TEXT'")
     texts[found[1]] = expanded(found[2], texts)
 
 

@@ -1,5 +1,5 @@
 -- Statements of which the last has to return a value.
-use Rattle.std.proofs.Common.{◌≡◌, List, [], ◌∷◌, ◌++◌, map, Option, Some, None, refl, ap, sym, ◌∙◌}
+use Rattle.std.proofs.Common.{◌≡◌, List, [], ◌∷◌, ◌++◌, Option, Some, None, refl, ap, sym, ◌∙◌}
 use Rattle.std.proofs.lemmas.List.{map-append}
 use Rattle.vdm_kinds.specs.declared.place.Place.{Place}
 use Rattle.abstract_syntax.specs.Statements.{StmtTree}

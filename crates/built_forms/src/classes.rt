@@ -6,7 +6,7 @@ ghost use Rattle.text_phases.specs.Built.{block_place, unbuilt_in_rest, unbuilt_
 ghost use Rattle.vdm_tree.specs.ClassView.{spec_view, class_view, block_view};
 
 use crate::members::{unbuilt_in_items, unbuilt_in_operations};
-use vdm_kinds::{NameAt, Place};
+use vdm_kinds::{Name, NameAt, Place};
 use vdm_tree::{Block, ClassDef, Spec};
 
 fn block_place(block: &Block) -> Place
@@ -31,26 +31,26 @@ fn unbuilt_in_rest(blocks: &[Block]) -> Option<Place>
     Some(block_place(first))
 }
 
-/// Where the first form stands that is not built in the blocks behind that of the variables.
-fn unbuilt_behind(blocks: &[Block]) -> Option<Place>
-    ensures { result ≡ unbuilt_behind (map block_view blocks.now) }
+/// Where the first form stands that is not built in the blocks behind that of the variables, in the class with the name.
+fn unbuilt_behind(class: Name, blocks: &[Block]) -> Option<Place>
+    ensures { result ≡ unbuilt_behind class (map block_view blocks.now) }
 {
     match blocks {
         [Block::Operations(operations, _), others @ ..] if !operations.is_empty() => {
-            unbuilt_in_operations(operations).or(unbuilt_in_rest(others))
+            unbuilt_in_operations(class, operations).or(unbuilt_in_rest(others))
         }
         _ => unbuilt_in_rest(blocks),
     }
 }
 
-fn unbuilt_in_blocks(blocks: &[Block]) -> Option<Place>
-    ensures { result ≡ unbuilt_in_blocks (map block_view blocks.now) }
+fn unbuilt_in_blocks(class: Name, blocks: &[Block]) -> Option<Place>
+    ensures { result ≡ unbuilt_in_blocks class (map block_view blocks.now) }
 {
     match blocks {
         [Block::Variables(items, _), others @ ..] if !items.is_empty() => {
-            unbuilt_in_items(items).or(unbuilt_behind(others))
+            unbuilt_in_items(items).or(unbuilt_behind(class, others))
         }
-        _ => unbuilt_behind(blocks),
+        _ => unbuilt_behind(class, blocks),
     }
 }
 
@@ -64,7 +64,7 @@ fn unbuilt_in_superclasses(superclasses: &[NameAt]) -> Option<Place>
 fn unbuilt_in_class(class: &ClassDef) -> Option<Place>
     ensures { result ≡ unbuilt_in_class (class_view class.now) }
 {
-    unbuilt_in_superclasses(&class.superclasses).or(unbuilt_in_blocks(&class.blocks))
+    unbuilt_in_superclasses(&class.superclasses).or(unbuilt_in_blocks(class.name, &class.blocks))
 }
 
 /// No class is built but the first.
@@ -79,7 +79,7 @@ fn unbuilt_in_classes(classes: &[ClassDef]) -> Option<Place>
 }
 
 /// Where the first form of a specification stands, in text order, that has no meaning so far; nothing where all are built.
-pub fn unbuilt_in_spec(spec: &Spec) -> Option<Place>
+pub(crate) fn unbuilt_in_spec(spec: &Spec) -> Option<Place>
     ensures { result ≡ unbuilt_in_spec (spec_view spec.now) }
 {
     unbuilt_in_classes(&spec.classes)

@@ -67,7 +67,7 @@ pub(crate) fn unbuilt_in_call(application: &Expr) -> Option<Place>
 
 /// Where the first node of the command's expression stands that has no meaning so far; nothing where all are built. Built are sums, and
 /// the call of an operation of a new object. It recurses once a level.
-pub fn unbuilt_in_expr(expr: &Expr) -> Option<Place>
+pub(crate) fn unbuilt_in_expr(expr: &Expr) -> Option<Place>
     ensures { result ≡ unbuilt_in_expr (view_of expr.now) }
 {
     match expr {

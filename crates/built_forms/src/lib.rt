@@ -3,9 +3,9 @@
 
 mod classes;
 mod exprs;
+mod faults;
 mod members;
 mod standing;
 mod statements;
 
-pub use classes::unbuilt_in_spec;
-pub use exprs::unbuilt_in_expr;
+pub use faults::unbuilt_fault;

@@ -1,7 +1,7 @@
 // Variables and operations: the first form that is not built.
 
-ghost use Rattle.std.specs.Prelude.{◌≡◌, map, option_map};
-ghost use Rattle.text_phases.specs.Built.{unless, is_same_place, unbuilt_in_type, lacks_initial, unbuilt_in_initial, unbuilt_in_variable, unbuilt_in_item, unbuilt_in_items, is_public, lacks_body, unbuilt_in_parameters, unbuilt_in_patterns, unbuilt_in_result, unbuilt_in_body, unbuilt_in_condition, unbuilt_in_head, unbuilt_behind_head, unbuilt_in_operation, unbuilt_in_operations};
+ghost use Rattle.std.specs.Prelude.{◌≡◌, ◌&&◌, not, map, option_map};
+ghost use Rattle.text_phases.specs.Built.{unless, is_same_place, unbuilt_in_type, lacks_initial, unbuilt_in_initial, unbuilt_in_variable, unbuilt_in_item, unbuilt_in_items, is_public, is_constructor, lacks_body, unbuilt_in_parameters, unbuilt_in_patterns, unbuilt_in_result, unbuilt_in_body, unbuilt_in_condition, unbuilt_in_head, unbuilt_behind_head, unbuilt_in_operation, unbuilt_in_operations};
 ghost use Rattle.type_tree.specs.TypeView.{type_view, type_views};
 ghost use Rattle.expr_tree.specs.View.{view_of, boxed_view, pattern_views};
 ghost use Rattle.vdm_tree.specs.StmtView.{boxed_stmt};
@@ -10,7 +10,7 @@ ghost use Rattle.vdm_tree.specs.ClassView.{variable_view, variable_item_view, op
 use crate::exprs::first_unbuilt;
 use crate::standing::{Standing, expr_first};
 use crate::statements::{unbuilt_in_block, unbuilt_in_stmt};
-use vdm_kinds::{BasicType, Place};
+use vdm_kinds::{BasicType, Name, Place};
 use vdm_tree::{Access, Body, Expr, Level, OpDef, Pattern, Stmt, TypeExpr, VarDef, VariableItem};
 
 /// Nothing where it is built, else the place.
@@ -148,11 +148,25 @@ fn unbuilt_in_condition(condition: &Option<Box<Expr>>) -> Option<Place>
     }
 }
 
-/// Where the first form of an operation's head stands that is not built; where it begins, if its body is missing.
-fn unbuilt_in_head(operation: &OpDef) -> Option<Place>
-    ensures { result ≡ unbuilt_in_head (operation_view operation.now) }
+/// Whether it makes new objects ready: it has the name of its class.
+fn is_constructor(class: Name, operation: &OpDef) -> bool
+    ensures { result ≡ is_constructor class (operation_view operation.now) }
 {
-    unless(is_public(operation.access), operation.place)
+    operation.name == class
+}
+
+/// Whether it is public, and no constructor.
+fn is_plain(class: Name, operation: &OpDef) -> bool
+    ensures { result ≡ (is_public (operation_view operation.now).access && not (is_constructor class (operation_view operation.now))) }
+{
+    is_public(operation.access) && !is_constructor(class, operation)
+}
+
+/// Where the first form of an operation's head stands that is not built; where it begins, if its body is missing.
+fn unbuilt_in_head(class: Name, operation: &OpDef) -> Option<Place>
+    ensures { result ≡ unbuilt_in_head class (operation_view operation.now) }
+{
+    unless(is_plain(class, operation), operation.place)
         .or(lacks_body(&operation.body, operation.place))
         .or(unbuilt_in_parameters(&operation.parameters))
         .or(unbuilt_in_result(&operation.result_type))
@@ -168,18 +182,18 @@ fn unbuilt_behind_head(operation: &OpDef) -> Option<Place>
         .or(unbuilt_in_condition(&operation.post))
 }
 
-fn unbuilt_in_operation(operation: &OpDef) -> Option<Place>
-    ensures { result ≡ unbuilt_in_operation (operation_view operation.now) }
+fn unbuilt_in_operation(class: Name, operation: &OpDef) -> Option<Place>
+    ensures { result ≡ unbuilt_in_operation class (operation_view operation.now) }
 {
-    unbuilt_in_head(operation).or(unbuilt_behind_head(operation))
+    unbuilt_in_head(class, operation).or(unbuilt_behind_head(operation))
 }
 
-/// Where the first form stands that is not built among operations.
-pub(crate) fn unbuilt_in_operations(operations: &[OpDef]) -> Option<Place>
-    ensures { result ≡ unbuilt_in_operations (map operation_view operations.now) }
+/// Where the first form stands that is not built among the operations of the class with the name.
+pub(crate) fn unbuilt_in_operations(class: Name, operations: &[OpDef]) -> Option<Place>
+    ensures { result ≡ unbuilt_in_operations class (map operation_view operations.now) }
 {
     for operation in operations {
-        if let Some(place) = unbuilt_in_operation(operation) {
+        if let Some(place) = unbuilt_in_operation(class, operation) {
             return Some(place);
         }
     }

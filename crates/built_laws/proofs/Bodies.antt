@@ -1,5 +1,5 @@
 -- Statements and bodies that are built, and initial values.
-use Rattle.std.proofs.Common.{◌≡◌, ℕ, true, [], ◌∷◌, filter, Option, Some, None, refl, ap, sym, ◌∙◌}
+use Rattle.std.proofs.Common.{◌≡◌, ℕ, true, not, ◌&&◌, [], ◌∷◌, Option, Some, None, refl, ap, sym, ◌∙◌}
 use Rattle.vdm_kinds.specs.declared.name.Name.{Name}
 use Rattle.vdm_kinds.specs.declared.place.Place.{Place}
 use Rattle.vdm_kinds.specs.declared.run_fault.RunFault.TheVariants.{Undefined, TypeFault}
@@ -8,24 +8,23 @@ use Rattle.abstract_syntax.specs.Types.{TypeTree}
 use Rattle.abstract_syntax.specs.Expressions.{ExprTree, named, joined, apply, subsequence, select, select_of_class, select_part, no_exprs, one_expr}
 use Rattle.abstract_syntax.specs.Statements.{variable, variable_of_class, StmtTree, StmtTrees, assign, call, block, returns, no_stmts, one_stmt}
 use Rattle.abstract_syntax.specs.Classes.{VariableTree, Body, written, not_yet_specified, subclass_responsibility, OperationTree, ClassTree, SpecTree, is_same_name, class_variables, class_operations}
-use Rattle.text_phases.specs.Built.{first_unbuilt, in_call, unbuilt_in_call, unbuilt_in_stmt, unbuilt_in_stmts, unbuilt_in_return, unbuilt_to_return, unbuilt_in_body, lacks_body, unless, is_public, is_same_place, unbuilt_in_type, unbuilt_in_head, unbuilt_behind_head, unbuilt_in_operation, lacks_initial, unbuilt_in_initial, unbuilt_in_variable}
-use Rattle.text_phases.specs.Naming.{scope_of, has_no_result, call_fault, stmt_fault, stmts_fault, body_fault}
+use Rattle.text_phases.specs.Built.{first_unbuilt, in_call, unbuilt_in_call, unbuilt_in_stmt, unbuilt_in_stmts, unbuilt_in_return, unbuilt_to_return, unbuilt_in_body, lacks_body, unless, is_public, is_constructor, is_same_place, unbuilt_in_type, unbuilt_in_head, unbuilt_behind_head, unbuilt_in_operation, lacks_initial, unbuilt_in_initial, unbuilt_in_variable}
+use Rattle.built_laws.specs.Known.{scope_of, call_fault, stmt_fault, stmts_fault, body_fault}
 use Rattle.vdm_meaning.specs.Types.{fits}
 use Rattle.vdm_meaning.specs.Tasks.{outside, inside}
 use Rattle.vdm_meaning.specs.Calls.{no_value, call_found}
 use Rattle.vdm_meaning.specs.Statements.{write_found, assigned}
 use Rattle.built_laws.specs.Meant.{IsNot, IsMeantSum, IsMeantCall, IsMeantStmt, AreMeantStmts, IsMeantBody}
-use Rattle.built_laws.proofs.Plans.{or_none-first, or_none-second, told-none, told-behind, unknown-none, is_fail, not-fail, is_undefined, not-undefined, tested, found, any-mapped, any-filtered}
+use Rattle.built_laws.proofs.Plans.{or_none-first, or_none-second, told-none, told-behind, unknown-none, is_fail, not-fail, is_undefined, not-undefined, tested, found, any-mapped}
 use Rattle.built_laws.proofs.Sums.{sum_inside, initial_meant}
 
 module _ (spec : SpecTree) (class : ClassTree) (me : ℕ) where
   call_meant : (application : ExprTree) → unbuilt_in_call application ≡ None → call_fault (scope_of class) application ≡ None
       → IsMeantCall spec (inside me class) application
   call_meant (apply (named name name_place) no_exprs place) h k =
-      let is = unknown-none ((scope_of class).is_procedure name) name_place k in
-      let among = any-filtered (λ (o : OperationTree). is_same_name name o.name) has_no_result (class_operations class)
-      (sym (any-mapped (λ (o : OperationTree). o.name) (is_same_name name) (filter has_no_result (class_operations class))) ∙ is) in
-      let o = found (λ (o : OperationTree). is_same_name name o.name) (class_operations class) among in
+      let is = unknown-none ((scope_of class).is_operation name) name_place k in
+      let o = found (λ (o : OperationTree). is_same_name name o.name) (class_operations class)
+      (sym (any-mapped (λ (o : OperationTree). o.name) (is_same_name name) (class_operations class)) ∙ is) in
       not-fail _ TypeFault place (ap (λ (o : Option OperationTree). is_fail (call_found class me o place no_value)) o.1)
   call_meant (apply (named name name_place) (one_expr argument others) place) h k = told-none _ h
   call_meant (apply head arguments place) h k = told-behind (first_unbuilt in_call head) place h
@@ -92,12 +91,12 @@ module _ (spec : SpecTree) (class : ClassTree) (me : ℕ) where
   body_meant result not_yet_specified place there h k = told-none _ there
   body_meant result subclass_responsibility place there h k = told-none _ there
 
-  pub operation_meant : (o : OperationTree) → unbuilt_in_operation o ≡ None → body_fault (scope_of class) o.body ≡ None
+  pub operation_meant : (o : OperationTree) → unbuilt_in_operation class.name o ≡ None → body_fault (scope_of class) o.body ≡ None
       → IsMeantBody spec (inside me class) o.body
   operation_meant o h k =
-      let head = or_none-first (unbuilt_in_head o) (unbuilt_behind_head o) h in
-      let behind = or_none-second (unbuilt_in_head o) (unbuilt_behind_head o) h in
-      let public = unless (is_public o.access) o.place in
+      let head = or_none-first (unbuilt_in_head class.name o) (unbuilt_behind_head o) h in
+      let behind = or_none-second (unbuilt_in_head class.name o) (unbuilt_behind_head o) h in
+      let public = unless (is_public o.access && not (is_constructor class.name o)) o.place in
       let lacks = lacks_body o.body o.place in
       let body = unbuilt_in_body o.result_type o.body in
       body_meant o.result_type o.body o.place (or_none-first lacks _ (or_none-second public _ head)) (or_none-first body _ behind) k

@@ -8,7 +8,7 @@ use Rattle.std.specs.List.{list_any}
 use Rattle.abstract_syntax.specs.Expressions.{ExprTree, apply, subsequence, select, select_of_class, select_part, create, no_exprs, one_expr}
 use Rattle.abstract_syntax.specs.Classes.{VariableTree, OperationTree, ClassTree, SpecTree, is_same_name, class_variables, class_operations, class_named}
 use Rattle.text_phases.specs.Built.{unbuilt_in_expr}
-use Rattle.text_phases.specs.Naming.{operation_fault, expr_names_fault, is_among, operation_names}
+use Rattle.built_laws.specs.Known.{operation_fault, expr_names_fault, is_among, operation_names}
 use Rattle.vdm_meaning.specs.Tasks.{Code}
 use Rattle.vdm_meaning.specs.Types.{all_fit}
 use Rattle.vdm_meaning.specs.Calls.{no_value, call_found, call_on_class}

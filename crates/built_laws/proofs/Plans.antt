@@ -1,7 +1,6 @@
 -- What plans are not, and what is found.
-use Rattle.std.proofs.Common.{◌≡◌, Bool, true, false, ◌||◌, if◌then◌else◌, List, [], ◌∷◌, map, filter, Option, Some, None, refl, ap, sym, inl, inr, ◌∙◌, true≢false}
+use Rattle.std.proofs.Common.{◌≡◌, Bool, true, false, ◌||◌, if◌then◌else◌, List, [], ◌∷◌, map, Option, Some, None, refl, ap, sym, ◌∙◌, true≢false}
 use Rattle.std.specs.List.{list_any, find}
-use Rattle.std.proofs.lemmas.Bool.{cases_Bool}
 use Rattle.std.proofs.lemmas.Option.{none-some}
 use Rattle.vdm_kinds.specs.declared.place.Place.{Place}
 use Rattle.vdm_kinds.specs.declared.run_fault.RunFault.{RunFault}
@@ -12,7 +11,7 @@ use Rattle.run_journal.specs.declared.question.Question.{Question}
 use Rattle.vdm_meaning.specs.Faults.{fault_at}
 use Rattle.vdm_meaning.specs.Tasks.{Code}
 use Rattle.text_phases.specs.Built.{or_behind}
-use Rattle.text_phases.specs.Naming.{unknown_unless}
+use Rattle.built_laws.specs.Known.{unknown_unless}
 use Rattle.built_laws.specs.Meant.{IsNot}
 
 -- ---- the first of two places
@@ -80,20 +79,3 @@ found p (x ∷ xs) h = found-next p x xs (p x) refl h (found p xs)
 pub any-mapped : {A B : Type 0} (f : A → B) (p : B → Bool) (xs : List A) → list_any p (map f xs) ≡ list_any (λ x. p (f x)) xs
 any-mapped f p [] = refl
 any-mapped f p (x ∷ xs) = ap (λ (b : Bool). p (f x) || b) (any-mapped f p xs)
-
-or_true : (a : Bool) → (a || true) ≡ true
-or_true true = refl
-or_true false = refl
-
--- what is among some of a list is among all
-pub any-filtered : {A : Type 0} (p q : A → Bool) (xs : List A) → list_any p (filter q xs) ≡ true → list_any p xs ≡ true
-any-filtered p q [] h = h
-any-filtered p q (x ∷ xs) h =
-    elim (cases_Bool (q x)) [
-      | inl yes_x ↦ either (p x) (any-filtered p q xs) (rw yes_x at h)
-      | inr no_x ↦ ap (λ (b : Bool). p x || b) (any-filtered p q xs (rw no_x at h)) ∙ or_true (p x)
-    ]
-  where
-    either : (a : Bool) {b c : Bool} → (b ≡ true → c ≡ true) → (a || b) ≡ true → (a || c) ≡ true
-    either true go k = refl
-    either false go k = go k

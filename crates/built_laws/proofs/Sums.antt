@@ -8,7 +8,7 @@ use Rattle.abstract_syntax.specs.Literals.{whole_literal}
 use Rattle.abstract_syntax.specs.Expressions.{ExprTree, literal, named, joined, apply, subsequence, select, select_of_class, select_part}
 use Rattle.abstract_syntax.specs.Classes.{VariableTree, ClassTree, SpecTree, is_same_name, class_variables}
 use Rattle.text_phases.specs.Built.{first_unbuilt, in_initial, in_term, in_sum, unbuilt_in_sum}
-use Rattle.text_phases.specs.Naming.{sum_fault, scope_of}
+use Rattle.built_laws.specs.Known.{sum_fault, scope_of}
 use Rattle.vdm_meaning.specs.Tasks.{Env, outside, inside}
 use Rattle.vdm_meaning.specs.Expressions.{read_of, read_found}
 use Rattle.built_laws.specs.Meant.{IsNot, IsMeantSum}

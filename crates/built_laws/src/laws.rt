@@ -6,7 +6,7 @@ ghost use Rattle.abstract_syntax.specs.Expressions.{ExprTree};
 ghost use Rattle.abstract_syntax.specs.Statements.{StmtTree};
 ghost use Rattle.abstract_syntax.specs.Classes.{VariableTree, OperationTree, ClassTree, SpecTree};
 ghost use Rattle.text_phases.specs.Built.{unbuilt_in_sum, unbuilt_in_stmt, unbuilt_in_operation, unbuilt_in_variable, unbuilt_in_expr};
-ghost use Rattle.text_phases.specs.Naming.{scope_of, sum_fault, stmt_fault, body_fault, expr_names_fault};
+ghost use Rattle.built_laws.specs.Known.{scope_of, sum_fault, stmt_fault, body_fault, expr_names_fault};
 ghost use Rattle.vdm_meaning.specs.Tasks.{outside, inside};
 ghost use Rattle.built_laws.specs.Meant.{IsMeantSum, IsMeantStmt, IsMeantBody, IsMeantCommand};
 
@@ -29,7 +29,7 @@ pub fn built_statements_have_meaning()
 /// So it is with the body of an operation, which is there.
 pub fn built_bodies_have_meaning()
     ensures { (spec : SpecTree) (class : ClassTree) (me : ℕ) (o : OperationTree)
-        → unbuilt_in_operation o ≡ None
+        → unbuilt_in_operation class.name o ≡ None
         → body_fault (scope_of class) o.body ≡ None
         → IsMeantBody spec (inside me class) o.body }
 {}

@@ -14,10 +14,10 @@ use Rattle.expr_tree.specs.declared.parts.Defined.{Defined}
 use Rattle.form_meaning.specs.Forms.{FormTree}
 use Rattle.class_checks.specs.Results.{first_among}
 use Rattle.class_checks.specs.Scopes.{ScopeTree}
-use Rattle.check_scopes.specs.Told.{first_among-++}
-use Rattle.check_scopes.specs.declared.setting.Setting.{Setting}
-use Rattle.check_frames.specs.Meant.{boxed, def_bound, defined_behind, definitions_behind}
-use Rattle.check_frames.specs.declared.after.Goal.TheVariants.{Body, Definitions}
+use Rattle.check_steps.specs.Below.check_scopes.specs.Told.{first_among-++}
+use Rattle.check_steps.specs.Below.check_scopes.specs.declared.setting.Setting.{Setting}
+use Rattle.check_steps.specs.Below.check_frames.specs.Meant.{boxed, def_bound, defined_behind, definitions_behind}
+use Rattle.check_steps.specs.Below.check_frames.specs.declared.after.Goal.TheVariants.{Body, Definitions}
 use Rattle.check_steps.specs.Viewed.{defined_parts}
 use Rattle.check_binds.specs.Behind.{defined_then, pattern_then}
 

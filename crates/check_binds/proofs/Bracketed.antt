@@ -7,13 +7,13 @@ use Rattle.class_checks.specs.Expressions.{bound_by, bound_in, where_true}
 use Rattle.class_checks.specs.Patterns.{binds, elements_of}
 use Rattle.class_checks.specs.Results.{gives}
 use Rattle.class_checks.specs.Scopes.{LocalForm, Locals, ScopeTree, all_bound, inside, type_scope}
-use Rattle.check_scopes.specs.Told.{scope_at, spec_in}
-use Rattle.check_scopes.specs.declared.setting.Setting.{Setting}
-use Rattle.check_patterns.specs.Givens.{given_in, given_in_each}
-use Rattle.check_frames.specs.Meant.{after_check, bound_behind, givens_check, goal_check, inside_of, iota_bound}
-use Rattle.check_frames.specs.declared.after.After.{After}
-use Rattle.check_frames.specs.declared.after.Goal.{Goal}
-use Rattle.check_frames.specs.declared.inside.Inside.{Inside}
+use Rattle.check_steps.specs.Below.check_scopes.specs.Told.{scope_at, spec_in}
+use Rattle.check_steps.specs.Below.check_scopes.specs.declared.setting.Setting.{Setting}
+use Rattle.check_steps.specs.Below.check_patterns.specs.Givens.{given_in, given_in_each}
+use Rattle.check_steps.specs.Below.check_frames.specs.Meant.{after_check, bound_behind, givens_check, goal_check, inside_of, iota_bound}
+use Rattle.check_steps.specs.Below.check_frames.specs.declared.after.After.{After}
+use Rattle.check_steps.specs.Below.check_frames.specs.declared.after.Goal.{Goal}
+use Rattle.check_steps.specs.Below.check_frames.specs.declared.inside.Inside.{Inside}
 use Rattle.check_steps.specs.Scoped.{givens_first}
 use Rattle.check_binds.specs.Behind.{pattern_then}
 

@@ -8,11 +8,11 @@ use Rattle.class_checks.specs.Expressions.{defined_form, definition_faults}
 use Rattle.class_checks.specs.Patterns.{binds}
 use Rattle.class_checks.specs.Results.{Checked, refusing}
 use Rattle.class_checks.specs.Scopes.{ScopeTree, inside, type_scope}
-use Rattle.check_scopes.specs.Told.{spec_in}
-use Rattle.check_scopes.specs.declared.setting.Setting.{Setting}
-use Rattle.check_patterns.specs.Givens.{given_in, givens_list}
-use Rattle.check_frames.specs.Meant.{goal_check}
-use Rattle.check_frames.specs.declared.after.Goal.{Goal}
+use Rattle.check_steps.specs.Below.check_scopes.specs.Told.{spec_in}
+use Rattle.check_steps.specs.Below.check_scopes.specs.declared.setting.Setting.{Setting}
+use Rattle.check_steps.specs.Below.check_patterns.specs.Givens.{given_in, givens_list}
+use Rattle.check_steps.specs.Below.check_frames.specs.Meant.{goal_check}
+use Rattle.check_steps.specs.Below.check_frames.specs.declared.after.Goal.{Goal}
 
 module _ (setting : Setting) (scope : ScopeTree) where
   -- the expressions in brackets in the pattern; then the rest, inside what it binds

@@ -8,17 +8,17 @@ ghost use Rattle.class_checks.specs.Expressions.{defined_form, definition_faults
 ghost use Rattle.class_checks.specs.Patterns.{binds};
 ghost use Rattle.class_checks.specs.Results.{first_among};
 ghost use Rattle.class_checks.specs.Scopes.{inside};
-ghost use Rattle.check_scopes.specs.Told.{first_in, scope_at, told, types_in};
-ghost use Rattle.check_frames.specs.Meant.{boxed, def_behind, definitions_behind, next_check, scope_here, spec_here};
+ghost use Rattle.check_steps.specs.Below.check_scopes.specs.Told.{first_in, scope_at, told, types_in};
+ghost use Rattle.check_steps.specs.Below.check_frames.specs.Meant.{boxed, def_behind, definitions_behind, next_check, scope_here, spec_here};
 ghost use Rattle.check_binds.specs.Behind.{defined_then, pattern_then};
 
 use crate::patterns::{bound_by, givens_of, refuse_pattern};
-use check_frames::{After, Goal, Here, Next};
-use check_patterns::inside;
-use check_scopes::{Locals, Refusals};
-use check_shapes::want_like;
 use check_steps::givens_next;
-use check_types::type_faults;
+use check_steps::handed::check_frames::{After, Goal, Here, Next};
+use check_steps::handed::check_patterns::inside;
+use check_steps::handed::check_scopes::{Locals, Refusals};
+use check_steps::handed::check_shapes::want_like;
+use check_steps::handed::check_types::type_faults;
 use expr_tree::{Defined, Expr, Pattern};
 use type_forms::Form;
 use type_tree::TypeExpr;

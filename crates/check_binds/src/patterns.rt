@@ -4,12 +4,12 @@ ghost use Rattle.std.specs.Prelude.{◌≡◌, IfOk, OnOk, map};
 ghost use Rattle.expr_tree.specs.View.{pattern_view};
 ghost use Rattle.class_checks.specs.Patterns.{binds, pattern_faults};
 ghost use Rattle.class_checks.specs.Results.{first_among};
-ghost use Rattle.check_scopes.specs.Told.{first_in, spec_in, types_in};
-ghost use Rattle.check_patterns.specs.Givens.{expr_trees, given_in};
-ghost use Rattle.check_patterns.specs.Shown.{local_view};
+ghost use Rattle.check_steps.specs.Below.check_scopes.specs.Told.{first_in, spec_in, types_in};
+ghost use Rattle.check_steps.specs.Below.check_patterns.specs.Givens.{expr_trees, given_in};
+ghost use Rattle.check_steps.specs.Below.check_patterns.specs.Shown.{local_view};
 
-use check_patterns::{LocalForm, binds, givens_in, pattern_faults};
-use check_scopes::{Refusals, Setting};
+use check_steps::handed::check_patterns::{LocalForm, binds, givens_in, pattern_faults};
+use check_steps::handed::check_scopes::{Refusals, Setting};
 use expr_tree::{Expr, Pattern};
 use std::alloc::Global;
 use type_forms::Form;

@@ -5,18 +5,18 @@ ghost use Rattle.expr_tree.specs.View.{bind_trees, bind_view};
 ghost use Rattle.class_checks.specs.Expressions.{bound_in, set_faults};
 ghost use Rattle.class_checks.specs.Results.{first_among};
 ghost use Rattle.class_checks.specs.Scopes.{inside};
-ghost use Rattle.check_scopes.specs.Told.{first_in, told};
-ghost use Rattle.check_patterns.specs.Shown.{local_view, patterns_of};
-ghost use Rattle.check_frames.specs.Meant.{bind_behind, bind_step_check, bound_behind, boxed, def_behind, definitions_behind, iota_behind, iota_bound, next_check, scope_here, spec_here};
+ghost use Rattle.check_steps.specs.Below.check_scopes.specs.Told.{first_in, told};
+ghost use Rattle.check_steps.specs.Below.check_patterns.specs.Shown.{local_view, patterns_of};
+ghost use Rattle.check_steps.specs.Below.check_frames.specs.Meant.{bind_behind, bind_step_check, bound_behind, boxed, def_behind, definitions_behind, iota_behind, iota_bound, next_check, scope_here, spec_here};
 
 use crate::definitions::{def_behind, definitions_behind};
-use check_frames::{After, BindStep, Binds, Goal, Here, Next};
-use check_patterns::{
+use check_steps::givens_next;
+use check_steps::handed::check_frames::{After, BindStep, Binds, Goal, Here, Next};
+use check_steps::handed::check_patterns::{
     LocalForm, Patterns, binds_each, elements_of, givens, inside, patterns_faults,
 };
-use check_scopes::Refusals;
-use check_shapes::{Kind, is_like};
-use check_steps::givens_next;
+use check_steps::handed::check_scopes::Refusals;
+use check_steps::handed::check_shapes::{Kind, is_like};
 use expr_tree::{Defined, Expr};
 use type_forms::Form;
 use vdm_kinds::{OutOfMemory, Place, SpecKind};

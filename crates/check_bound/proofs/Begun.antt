@@ -39,10 +39,10 @@ use Rattle.class_checks.specs.Expressions.{bound_by, bound_in, check, defined_in
 use Rattle.class_checks.specs.Patterns.{binds, elements_of, pattern_faults}
 use Rattle.class_checks.specs.Results.{after, gives, refusing}
 use Rattle.class_checks.specs.Scopes.{ScopeTree, inside, type_scope}
-use Rattle.check_scopes.specs.Told.{spec_in}
-use Rattle.check_scopes.specs.declared.setting.Setting.{Setting}
-use Rattle.check_shapes.specs.declared.shape.Shape.TheVariants.{Condition, Map, Sequence, Set}
-use Rattle.check_patterns.specs.Givens.{givens-listed, givens_each-listed}
+use Rattle.check_frames.specs.Below.check_scopes.specs.Told.{spec_in}
+use Rattle.check_frames.specs.Below.check_scopes.specs.declared.setting.Setting.{Setting}
+use Rattle.check_frames.specs.Below.check_shapes.specs.declared.shape.Shape.TheVariants.{Condition, Map, Sequence, Set}
+use Rattle.check_frames.specs.Below.check_patterns.specs.Givens.{givens-listed, givens_each-listed}
 use Rattle.check_frames.specs.Meant.{
   bind_check,
   bound_behind,

@@ -29,10 +29,10 @@ use Rattle.class_checks.specs.Expressions.{check, listed, pairs_in}
 use Rattle.class_checks.specs.Results.{Checked}
 use Rattle.class_checks.specs.Scopes.{ScopeTree}
 use Rattle.class_checks.specs.Shapes.{of_sequence, of_set, of_tuple}
-use Rattle.check_scopes.specs.Told.{spec_in}
-use Rattle.check_scopes.specs.declared.setting.Setting.{Setting}
-use Rattle.check_shapes.specs.ShapeView.{shape_view}
-use Rattle.check_shapes.specs.declared.shape.Shape.TheVariants.{Changed, Map, Operator, Part, Prefix, Range, Sequence, Set, Subsequence, Test, Token, Tuple}
+use Rattle.check_frames.specs.Below.check_scopes.specs.Told.{spec_in}
+use Rattle.check_frames.specs.Below.check_scopes.specs.declared.setting.Setting.{Setting}
+use Rattle.check_frames.specs.Below.check_shapes.specs.ShapeView.{shape_view}
+use Rattle.check_frames.specs.Below.check_shapes.specs.declared.shape.Shape.TheVariants.{Changed, Map, Operator, Part, Prefix, Range, Sequence, Set, Subsequence, Test, Token, Tuple}
 use Rattle.check_frames.specs.Meant.{boxed, part_then, rest_check}
 use Rattle.check_frames.specs.declared.rest.Rest.TheVariants.{Items, Maplets, Modified, One, Three, Two}
 use Rattle.check_bound.specs.declared.parts.Parts.{Parts}

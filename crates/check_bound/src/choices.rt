@@ -9,10 +9,10 @@ ghost use Rattle.check_frames.specs.Meant.{boxed, next_check, scope_here, spec_h
 ghost use Rattle.expr_topics.specs.Topics.{topic_of};
 ghost use Rattle.expr_topics.specs.declared.topic.Topic.TheVariants.{Choices};
 
+use check_frames::handed::check_patterns::Patterns;
 use check_frames::{BindStep, Branches, Choice, Here, Next, Step};
-use check_patterns::Patterns;
+use check_series::handed::check_steps::{part_of, place_of};
 use check_series::{definitions_next, if_next};
-use check_steps::{part_of, place_of};
 use expr_tree::{Bind, Branch, Case, Defined, Expr, Pattern};
 use type_forms::Form;
 use vdm_kinds::OutOfMemory;

@@ -4,16 +4,16 @@ ghost use Rattle.std.specs.Prelude.{◌≡◌, [], IfOk};
 ghost use Rattle.expr_tree.specs.View.{view_of};
 ghost use Rattle.class_checks.specs.Expressions.{check};
 ghost use Rattle.class_checks.specs.Scopes.{ScopeTree};
-ghost use Rattle.check_scopes.specs.Told.{spec_in};
-ghost use Rattle.check_scopes.specs.declared.setting.Setting.{Setting as AnySetting};
-ghost use Rattle.check_shapes.specs.ShapeView.{shape_view};
+ghost use Rattle.check_frames.specs.Below.check_scopes.specs.Told.{spec_in};
+ghost use Rattle.check_frames.specs.Below.check_scopes.specs.declared.setting.Setting.{Setting as AnySetting};
+ghost use Rattle.check_frames.specs.Below.check_shapes.specs.ShapeView.{shape_view};
 ghost use Rattle.check_frames.specs.Meant.{next_check, rest_check, scope_here, spec_here};
 ghost use Rattle.expr_topics.specs.Topics.{topic_of};
 ghost use Rattle.expr_topics.specs.declared.topic.Topic.TheVariants.{Parts as PartsTopic};
 
+use check_frames::handed::check_shapes::Shape;
 use check_frames::{Here, Next, Rest};
-use check_shapes::Shape;
-use check_steps::rest_next;
+use check_series::handed::check_steps::rest_next;
 use expr_tree::Expr;
 use vdm_kinds::OutOfMemory;
 

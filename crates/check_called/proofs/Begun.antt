@@ -7,10 +7,10 @@ use Rattle.abstract_syntax.specs.Expressions.{ExprTree, select, select_of_class,
 use Rattle.class_checks.specs.Expressions.{check}
 use Rattle.class_checks.specs.Results.{after}
 use Rattle.class_checks.specs.Scopes.{ScopeTree}
-use Rattle.check_scopes.specs.Told.{spec_in}
-use Rattle.check_scopes.specs.declared.setting.Setting.{Setting}
-use Rattle.check_frames.specs.Meant.{target_check, target_of_class_check}
-use Rattle.check_frames.specs.declared.way.Way.TheVariants.{Read}
+use Rattle.check_steps.specs.Below.check_scopes.specs.Told.{spec_in}
+use Rattle.check_steps.specs.Below.check_scopes.specs.declared.setting.Setting.{Setting}
+use Rattle.check_steps.specs.Below.check_frames.specs.Meant.{target_check, target_of_class_check}
+use Rattle.check_steps.specs.Below.check_frames.specs.declared.way.Way.TheVariants.{Read}
 
 module _ (setting : Setting) (scope : ScopeTree) where
   pub select_begun : (target : ExprTree) (name : Name) (name_place place : Place)

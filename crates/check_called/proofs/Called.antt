@@ -16,11 +16,11 @@ use Rattle.class_checks.specs.Expressions.{applied, check, expr_count, listed, r
 use Rattle.class_checks.specs.Results.{Checked, after}
 use Rattle.class_checks.specs.Scopes.{ScopeTree}
 use Rattle.class_checks.specs.Shapes.{ShapeTree}
-use Rattle.check_scopes.specs.Told.{spec_in}
-use Rattle.check_scopes.specs.declared.setting.Setting.{Setting}
-use Rattle.check_frames.specs.Meant.{boxed, called_with, target_check, target_of_class_check, value_applied, value_behind}
-use Rattle.check_frames.specs.declared.rest.Rest.TheVariants.{Items}
-use Rattle.check_frames.specs.declared.way.Way.TheVariants.{Applied}
+use Rattle.check_steps.specs.Below.check_scopes.specs.Told.{spec_in}
+use Rattle.check_steps.specs.Below.check_scopes.specs.declared.setting.Setting.{Setting}
+use Rattle.check_steps.specs.Below.check_frames.specs.Meant.{boxed, called_with, target_check, target_of_class_check, value_applied, value_behind}
+use Rattle.check_steps.specs.Below.check_frames.specs.declared.rest.Rest.TheVariants.{Items}
+use Rattle.check_steps.specs.Below.check_frames.specs.declared.way.Way.TheVariants.{Applied}
 use Rattle.check_called.specs.Heads.{head_applied, is_by_name}
 use Rattle.check_called.specs.declared.head.Head.TheVariants.{Select, SelectOfClass, Other}
 

@@ -32,9 +32,9 @@ use Rattle.class_checks.specs.TypeNames.{
   record_type,
 }
 use Rattle.type_forms.specs.Tree.{form_trees}
-use Rattle.check_calls.specs.Calling.{Calls}
-use Rattle.check_calls.specs.declared.callee.Callee.{Callee}
-use Rattle.check_types.specs.Refusing.{Refused, refused_as, refused_by, refuses}
+use Rattle.check_steps.specs.Below.check_calls.specs.Calling.{Calls}
+use Rattle.check_steps.specs.Below.check_calls.specs.declared.callee.Callee.{Callee}
+use Rattle.check_steps.specs.Below.check_types.specs.Refusing.{Refused, refused_as, refused_by, refuses}
 use Rattle.check_called.specs.Offers.{Offer, nothing_offered, offered}
 
 -- ---- the forms of the fields

@@ -5,7 +5,7 @@ use Rattle.pattern_meaning.specs.RecordTypes.{RecordType}
 use Rattle.form_meaning.specs.Forms.{FormTree, FormTrees, any_form, no_forms}
 use Rattle.class_checks.specs.Expressions.{made_form, made_wants}
 use Rattle.type_forms.specs.Tree.{form_trees}
-use Rattle.check_calls.specs.declared.callee.Callee.{Callee}
+use Rattle.check_steps.specs.Below.check_calls.specs.declared.callee.Callee.{Callee}
 
 pub record Offer : Type 0 where
   pub wants : FormTrees

@@ -3,15 +3,15 @@
 ghost use Rattle.std.specs.Prelude.{◌≡◌, Some, IfOk};
 ghost use Rattle.class_checks.specs.Expressions.{record_callee};
 ghost use Rattle.class_checks.specs.TypeNames.{record_type};
-ghost use Rattle.check_scopes.specs.Told.{first_in, types_in};
-ghost use Rattle.check_calls.specs.Calling.{Calls};
-ghost use Rattle.check_frames.specs.Meant.{scope_here, spec_here};
+ghost use Rattle.check_steps.specs.Below.check_scopes.specs.Told.{first_in, types_in};
+ghost use Rattle.check_steps.specs.Below.check_calls.specs.Calling.{Calls};
+ghost use Rattle.check_steps.specs.Below.check_frames.specs.Meant.{scope_here, spec_here};
 ghost use Rattle.check_called.specs.Offers.{nothing_offered, offer_of, offered};
 
-use check_calls::Callee;
-use check_frames::Here;
-use check_scopes::Refusals;
-use check_types::{field_forms, record_faults, record_type};
+use check_steps::handed::check_calls::Callee;
+use check_steps::handed::check_frames::Here;
+use check_steps::handed::check_scopes::Refusals;
+use check_steps::handed::check_types::{field_forms, record_faults, record_type};
 use type_forms::{Alt, Form};
 use vdm_kinds::{Name, OutOfMemory, Place, TypeName};
 

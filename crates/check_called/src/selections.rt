@@ -6,11 +6,11 @@ ghost use Rattle.abstract_syntax.specs.Expressions.{expr_place, select, select_o
 ghost use Rattle.expr_tree.specs.View.{view_of};
 ghost use Rattle.class_checks.specs.Expressions.{check};
 ghost use Rattle.class_checks.specs.Results.{after};
-ghost use Rattle.check_frames.specs.Meant.{boxed, next_check, scope_here, spec_here, target_check, target_of_class_check};
+ghost use Rattle.check_steps.specs.Below.check_frames.specs.Meant.{boxed, next_check, scope_here, spec_here, target_check, target_of_class_check};
 ghost use Rattle.expr_topics.specs.Topics.{topic_of};
 ghost use Rattle.expr_topics.specs.declared.topic.Topic.TheVariants.{Selections};
 
-use check_frames::{Here, Next, Step, Way};
+use check_steps::handed::check_frames::{Here, Next, Step, Way};
 use check_steps::{named_at, part_of, place_of};
 use expr_tree::Expr;
 use type_forms::Form;

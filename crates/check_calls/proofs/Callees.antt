@@ -21,11 +21,11 @@ use Rattle.class_checks.specs.TypeNames.{form_of, opened, meets}
 use Rattle.class_meaning.specs.Classes.{class_at, class_number, name_of_class}
 use Rattle.class_meaning.specs.Found.{own_in}
 use Rattle.class_meaning.specs.declared.ask.Ask.TheVariants.{Called as CalledBy}
-use Rattle.spec_table.specs.Members.{own_member}
+use Rattle.check_fields.specs.Below.spec_table.specs.Members.{own_member}
 use Rattle.type_forms.specs.Tree.{form_trees}
 use Rattle.type_tree.specs.TypeView.{type_view}
 use Rattle.type_tree.specs.declared.type_expr.TypeExpr.{TypeExpr}
-use Rattle.check_scopes.specs.Told.{first_among-++}
+use Rattle.check_fields.specs.Below.check_scopes.specs.Told.{first_among-++}
 use Rattle.check_calls.specs.Calling.{Called, Calls}
 use Rattle.check_names.specs.Noting.{Note, note, noted_as}
 use Rattle.check_calls.specs.declared.callee.Callee.{Callee}

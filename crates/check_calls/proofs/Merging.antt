@@ -4,7 +4,7 @@ use Rattle.std.proofs.lemmas.Bool.Decides.{nat_tests}
 use Rattle.vdm_kinds.specs.SpecKinds.{spec_number}
 use Rattle.vdm_kinds.specs.declared.spec_fault.SpecFault.{SpecFault}
 use Rattle.class_checks.specs.Results.{is_before, first_of, first_among}
-use Rattle.check_scopes.specs.Told.{first_among-++}
+use Rattle.check_fields.specs.Below.check_scopes.specs.Told.{first_among-++}
 use Rattle.check_names.specs.Noting.{first_of_both}
 
 -- ---- one number, and where these are the same what else there is

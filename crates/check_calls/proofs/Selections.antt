@@ -34,7 +34,7 @@ use Rattle.class_checks.specs.Callees.{
 }
 use Rattle.class_checks.specs.Results.{spoils, form_unless, first_among}
 use Rattle.class_checks.specs.Scopes.{ScopeTree}
-use Rattle.check_scopes.specs.Told.{first_among-++}
+use Rattle.check_fields.specs.Below.check_scopes.specs.Told.{first_among-++}
 use Rattle.check_calls.specs.Calling.{Called, called, made, Calls}
 use Rattle.check_names.specs.Noting.{Note, note, noted_as, first_of_both}
 use Rattle.check_calls.specs.Selecting.{Shown, absent, refused_by, found_as, shown_of, ShownAll, all_of, both_called, with_shown, among_shown}

@@ -12,14 +12,14 @@ ghost use Rattle.class_meaning.specs.Classes.{name_of_class};
 ghost use Rattle.type_tree.specs.TypeView.{type_view};
 ghost use Rattle.type_tree.specs.declared.type_expr.TypeExpr.{TypeExpr as Declared};
 ghost use Rattle.vdm_tree.specs.ClassView.{function_view, operation_view};
-ghost use Rattle.check_scopes.specs.Told.{first_in, spec_in};
+ghost use Rattle.check_fields.specs.Below.check_scopes.specs.Told.{first_in, spec_in};
 ghost use Rattle.check_calls.specs.Calling.{Calls};
 ghost use Rattle.check_names.specs.Noting.{note, noted_as};
-ghost use Rattle.spec_table.specs.Meanings.{Owns};
+ghost use Rattle.check_fields.specs.Below.spec_table.specs.Meanings.{Owns};
 
+use check_fields::handed::check_scopes::{Refusals, Setting};
+use check_fields::handed::spec_table::Owner;
 use check_names::{form_in, form_unless};
-use check_scopes::{Refusals, Setting};
-use spec_table::Owner;
 use std::alloc::Global;
 use type_forms::Form;
 use type_tree::TypeExpr;

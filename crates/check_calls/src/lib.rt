@@ -1,6 +1,12 @@
 //! What is called, created and selected, and what is refused of it.
 #![tactic(auto)]
 
+/// Crates below that are handed on.
+pub mod handed {
+    pub use check_fields::handed::{check_scopes, spec_table};
+    pub use check_names;
+}
+
 mod called;
 mod callee;
 mod created;

@@ -9,12 +9,12 @@ ghost use Rattle.class_checks.specs.Operators.{sequence_or_map as a_sequence_or_
 ghost use Rattle.class_checks.specs.Results.{first_among, form_unless};
 ghost use Rattle.class_checks.specs.TypeNames.{meets, opened};
 ghost use Rattle.type_forms.specs.Tree.{form_trees};
-ghost use Rattle.check_scopes.specs.Told.{first_in, spec_in};
+ghost use Rattle.check_fields.specs.Below.check_scopes.specs.Told.{first_in, spec_in};
 ghost use Rattle.check_calls.specs.Calling.{Calls};
 
 use crate::callee::{Call, Callee};
+use check_fields::handed::check_scopes::{Refusals, Setting};
 use check_names::spoiled_if;
-use check_scopes::{Refusals, Setting};
 use std::alloc::Global;
 use type_forms::{Alt, Form, PartOf, taken};
 use vdm_kinds::{OutOfMemory, SpecKind};

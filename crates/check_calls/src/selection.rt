@@ -6,7 +6,7 @@ ghost use Rattle.class_meaning.specs.Classes.{class_number};
 ghost use Rattle.class_checks.specs.Callees.{Callee as CalleeTree, Selected as SelectedTree, Selection as SelectionTree, of_alternative as of_kind, class_callee as callee_of_class, only_selected as only_the_selected, refused_callee as callee_refused, selected_callee as callee_selected, selected_of_class as callee_selected_of_class, settled as settled_by, unless_refused as callee_unless_refused, wants_joined as joined_wants};
 ghost use Rattle.class_checks.specs.Results.{first_among};
 ghost use Rattle.class_checks.specs.Scopes.{Locals};
-ghost use Rattle.check_scopes.specs.Told.{first_in, scope_at, spec_in};
+ghost use Rattle.check_fields.specs.Below.check_scopes.specs.Told.{first_in, scope_at, spec_in};
 ghost use Rattle.form_meaning.specs.Forms.{joined, one_of};
 ghost use Rattle.check_calls.specs.Calling.{Calls, called, made};
 ghost use Rattle.check_names.specs.Noting.{first_of_both};
@@ -15,8 +15,8 @@ ghost use Rattle.type_forms.specs.Tree.{alt_of, alt_trees, form_trees};
 
 use crate::callee::{Callee, of_any_arguments, refused_callee};
 use crate::selected::{Selected, Use, in_object_class, of_alternative};
+use check_fields::handed::check_scopes::{Refusals, Setting};
 use check_names::refuse_first;
-use check_scopes::{Refusals, Setting};
 use std::alloc::Global;
 use type_forms::{Alt, Form, Node, joined};
 use vdm_kinds::{NameAt, OutOfMemory, Place, SpecFault, SpecKind};

@@ -57,8 +57,8 @@ use Rattle.class_checks.specs.Patterns.{binds, bindings_of, elements_of, pattern
 use Rattle.class_checks.specs.Results.{Checked, gives, refusing, after, after_each}
 use Rattle.class_checks.specs.Scopes.{LocalForm, ScopeTree, inside, type_scope}
 use Rattle.class_checks.specs.Shapes.{ShapeTree, of_map, Seen, next_part, all_done, one_part}
-use Rattle.check_scopes.specs.Told.{scope_at, spec_in}
-use Rattle.check_scopes.specs.declared.setting.Setting.{Setting}
+use Rattle.check_patterns.specs.Below.check_scopes.specs.Told.{scope_at, spec_in}
+use Rattle.check_patterns.specs.Below.check_scopes.specs.declared.setting.Setting.{Setting}
 use Rattle.check_shapes.specs.ShapeView.{names_of, shape_view, seen_view}
 use Rattle.check_patterns.specs.Shown.{local_view}
 use Rattle.check_patterns.specs.Shown.{patterns_of}

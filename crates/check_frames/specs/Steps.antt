@@ -3,8 +3,8 @@ use Rattle.std.specs.Prelude.{◌≡◌, List, Option, Result, Ok, Err, IfOk}
 use Rattle.std.proofs.Common.{ap, ◌∙◌}
 use Rattle.vdm_kinds.specs.declared.spec_fault.SpecFault.{SpecFault}
 use Rattle.class_checks.specs.Results.{Checked, refusing, first_among}
-use Rattle.check_scopes.specs.Told.{told, told_refusing}
-use Rattle.check_scopes.specs.declared.setting.Setting.{Setting}
+use Rattle.check_patterns.specs.Below.check_scopes.specs.Told.{told, told_refusing}
+use Rattle.check_patterns.specs.Below.check_scopes.specs.declared.setting.Setting.{Setting}
 use Rattle.check_frames.specs.Meant.{next_check}
 use Rattle.check_frames.specs.declared.next.Next.{Next}
 

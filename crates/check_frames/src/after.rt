@@ -2,7 +2,7 @@
 
 use crate::bind_step::Binds;
 use crate::cases::CaseValues;
-use check_scopes::Locals;
+use check_patterns::handed::check_scopes::Locals;
 use expr_tree::{Defined, Expr};
 use type_forms::Form;
 

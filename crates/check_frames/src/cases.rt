@@ -1,6 +1,6 @@
 // What is left of a `cases`.
 
-use check_scopes::Locals;
+use check_patterns::handed::check_scopes::Locals;
 use expr_tree::{Case, Expr};
 use type_forms::Form;
 

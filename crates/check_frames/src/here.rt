@@ -1,6 +1,6 @@
 // Where something is checked.
 
-use check_scopes::{Locals, Setting};
+use check_patterns::handed::check_scopes::{Locals, Setting};
 use std::alloc::Global;
 
 /// Where something is checked: the table and the scope of the whole expression, and what is bound there.

@@ -1,6 +1,14 @@
 //! What the checker of expressions still has to do, as data.
 #![tactic(auto)]
 
+/// Crates below that are handed on.
+pub mod handed {
+    pub use check_patterns;
+    pub use check_patterns::handed::{check_scopes, check_types, spec_table};
+    pub use check_shapes;
+    pub use check_shapes::handed::check_fields;
+}
+
 mod after;
 mod bind_step;
 mod cases;

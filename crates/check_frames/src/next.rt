@@ -9,7 +9,7 @@ ghost use Rattle.check_frames.specs.Meant.{next_check, scope_here, spec_here, st
 use crate::after::After;
 use crate::here::Here;
 use crate::step::{Frame, Step};
-use check_scopes::Locals;
+use check_patterns::handed::check_scopes::Locals;
 use expr_tree::Expr;
 use type_forms::Form;
 use vdm_kinds::OutOfMemory;

@@ -6,7 +6,7 @@ use crate::choice::Choice;
 use crate::inside::Body;
 use crate::rest::Rest;
 use crate::way::Way;
-use check_scopes::Locals;
+use check_patterns::handed::check_scopes::Locals;
 use check_shapes::{Seen, Shape};
 use expr_tree::Expr;
 use vdm_kinds::{NameAt, Place};

@@ -37,10 +37,10 @@ use Rattle.class_checks.specs.Results.{gives, refusing}
 use Rattle.class_checks.specs.Scopes.{ScopeTree, type_scope}
 use Rattle.class_checks.specs.Shapes.{of_test}
 use Rattle.class_checks.specs.TypeNames.{name_faults, type_faults}
-use Rattle.check_scopes.specs.Told.{spec_in}
-use Rattle.check_scopes.specs.declared.setting.Setting.{Setting}
-use Rattle.check_frames.specs.Meant.{boxed, part_then, rest_check}
-use Rattle.check_frames.specs.declared.rest.Rest.TheVariants.{One}
+use Rattle.check_steps.specs.Below.check_scopes.specs.Told.{spec_in}
+use Rattle.check_steps.specs.Below.check_scopes.specs.declared.setting.Setting.{Setting}
+use Rattle.check_steps.specs.Below.check_frames.specs.Meant.{boxed, part_then, rest_check}
+use Rattle.check_steps.specs.Below.check_frames.specs.declared.rest.Rest.TheVariants.{One}
 
 abbrev Boxed : Type 0
 Boxed = Bor (Box Expr Global)

@@ -6,15 +6,17 @@ ghost use Rattle.abstract_syntax.specs.Expressions.{current_time, history as his
 ghost use Rattle.expr_tree.specs.View.{view_of};
 ghost use Rattle.class_checks.specs.Expressions.{check};
 ghost use Rattle.class_checks.specs.Results.{gives};
-ghost use Rattle.check_scopes.specs.Told.{first_in, told};
-ghost use Rattle.check_frames.specs.Meant.{next_check, scope_here, spec_here};
+ghost use Rattle.check_steps.specs.Below.check_scopes.specs.Told.{first_in, told};
+ghost use Rattle.check_steps.specs.Below.check_frames.specs.Meant.{next_check, scope_here, spec_here};
 ghost use Rattle.expr_topics.specs.Topics.{topic_of};
 ghost use Rattle.expr_topics.specs.declared.topic.Topic.TheVariants.{Names};
 
-use check_frames::{Here, Next};
-use check_names::{beyond, history, read_name, read_old, read_qualified, read_result, read_self};
-use check_scopes::Refusals;
-use check_shapes::Kind;
+use check_steps::handed::check_frames::{Here, Next};
+use check_steps::handed::check_names::{
+    beyond, history, read_name, read_old, read_qualified, read_result, read_self,
+};
+use check_steps::handed::check_scopes::Refusals;
+use check_steps::handed::check_shapes::Kind;
 use expr_tree::Expr;
 use type_forms::Form;
 use vdm_kinds::{Name, NameAt, OutOfMemory, Place};

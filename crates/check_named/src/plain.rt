@@ -6,13 +6,13 @@ ghost use Rattle.abstract_syntax.specs.Expressions.{bracketed, empty_map, litera
 ghost use Rattle.type_tree.specs.LiteralView.{literal_view};
 ghost use Rattle.expr_tree.specs.View.{view_of};
 ghost use Rattle.class_checks.specs.Expressions.{check};
-ghost use Rattle.check_frames.specs.Meant.{boxed, next_check, scope_here, spec_here};
+ghost use Rattle.check_steps.specs.Below.check_frames.specs.Meant.{boxed, next_check, scope_here, spec_here};
 ghost use Rattle.expr_topics.specs.Topics.{topic_of};
 ghost use Rattle.expr_topics.specs.declared.topic.Topic.TheVariants.{Plain};
 
-use check_frames::{Here, Next};
-use check_shapes::{literal_form, map_with};
 use check_steps::becomes;
+use check_steps::handed::check_frames::{Here, Next};
+use check_steps::handed::check_shapes::{literal_form, map_with};
 use expr_tree::Expr;
 use type_forms::Form;
 use type_tree::Literal;

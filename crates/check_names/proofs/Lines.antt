@@ -8,10 +8,10 @@ use Rattle.class_meaning.specs.Classes.{class_number}
 use Rattle.class_meaning.specs.Members.{of_type, of_value, of_variable}
 use Rattle.class_checks.specs.Callees.{is_called, has_called, has_some_called}
 use Rattle.class_checks.specs.Members.{has_synchronised_of, is_counted}
-use Rattle.spec_table.specs.Meanings.{class_named}
-use Rattle.spec_table.specs.Tables.{table_spec}
-use Rattle.spec_table.specs.declared.table.ClassTable.{ClassTable}
-use Rattle.spec_table.proofs.Meaning.{any_ancestor}
+use Rattle.check_scopes.specs.Below.spec_table.specs.Meanings.{class_named}
+use Rattle.check_scopes.specs.Below.spec_table.specs.Tables.{table_spec}
+use Rattle.check_scopes.specs.Below.spec_table.specs.declared.table.ClassTable.{ClassTable}
+use Rattle.check_scopes.specs.Below.spec_table.proofs.Meaning.{any_ancestor}
 
 pub counted_in_line : (table : ClassTable) (class name : Name) (line : List Name)
     → ((k : ℕ) → class_number (table_spec table) class ≡ Some k → line ≡ ancestor_names (table_spec table) k)

@@ -7,12 +7,12 @@ ghost use Rattle.class_checks.specs.Results.{first_among};
 ghost use Rattle.class_checks.specs.Scopes.{Locals};
 ghost use Rattle.check_scopes.specs.Told.{first_in, scope_at, spec_in};
 ghost use Rattle.check_names.specs.Noting.{note, noted};
-ghost use Rattle.spec_table.specs.Meanings.{Owns};
+ghost use Rattle.check_scopes.specs.Below.spec_table.specs.Meanings.{Owns};
 
 use crate::noting::{either, spoiled_if};
+use check_scopes::handed::spec_table::Owner;
 use check_scopes::{Refusals, Setting};
 use class_checks::Reach;
-use spec_table::Owner;
 use vdm_kinds::{Access, Place, SpecKind};
 
 /// Refuses a member that may not be named here.

@@ -8,11 +8,11 @@ ghost use Rattle.class_meaning.specs.Classes.{class_number};
 ghost use Rattle.class_meaning.specs.Members.{of_function, of_operation, members_in};
 ghost use Rattle.class_checks.specs.Callees.{has_called, has_constructor as class_has_constructor, has_some_called as some_called, is_called, is_constructor as is_constructor_of};
 ghost use Rattle.class_checks.specs.Members.{has_synchronised as class_has_synchronised, has_synchronised_of, is_counted, is_synchronised as is_synchronised_in};
-ghost use Rattle.spec_table.specs.Meanings.{class_named};
-ghost use Rattle.spec_table.specs.Tables.{table_spec};
+ghost use Rattle.check_scopes.specs.Below.spec_table.specs.Meanings.{class_named};
+ghost use Rattle.check_scopes.specs.Below.spec_table.specs.Tables.{table_spec};
 ghost use Rattle.vdm_tree.specs.ClassView.{block_view, class_view, function_view, operation_view};
 
-use spec_table::ClassTable;
+use check_scopes::handed::spec_table::ClassTable;
 use vdm_kinds::Name;
 use vdm_tree::{Block, ClassDef, FunctionDef, OpDef};
 

@@ -6,12 +6,12 @@ ghost use Rattle.form_meaning.specs.Forms.{any_form};
 ghost use Rattle.type_tree.specs.TypeView.{type_view};
 ghost use Rattle.class_checks.specs.TypeNames.{form_of};
 ghost use Rattle.class_meaning.specs.Classes.{name_of_class};
-ghost use Rattle.spec_table.specs.Meanings.{Owns};
+ghost use Rattle.check_scopes.specs.Below.spec_table.specs.Meanings.{Owns};
 ghost use Rattle.check_scopes.specs.Told.{first_in, spec_in, told};
 ghost use Rattle.check_names.specs.Noting.{first_of_both, note, noted};
 
+use check_scopes::handed::spec_table::Owner;
 use check_scopes::{Refusals, Setting};
-use spec_table::Owner;
 use std::alloc::Global;
 use type_forms::Form;
 use type_tree::TypeExpr;

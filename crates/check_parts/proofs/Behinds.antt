@@ -6,10 +6,10 @@ use Rattle.vdm_kinds.specs.declared.place.Place.{Place}
 use Rattle.form_meaning.specs.Forms.{FormTree}
 use Rattle.class_checks.specs.Callees.{selected_callee, selected_of_class}
 use Rattle.class_checks.specs.Scopes.{ScopeTree}
-use Rattle.check_scopes.specs.Told.{spec_in}
-use Rattle.check_scopes.specs.declared.setting.Setting.{Setting}
-use Rattle.check_frames.specs.Meant.{arguments_of, called_with, target_check, target_of_class_check, use_of}
-use Rattle.check_frames.specs.declared.way.Way.{Way}
+use Rattle.check_series.specs.Below.check_scopes.specs.Told.{spec_in}
+use Rattle.check_series.specs.Below.check_scopes.specs.declared.setting.Setting.{Setting}
+use Rattle.check_series.specs.Below.check_frames.specs.Meant.{arguments_of, called_with, target_check, target_of_class_check, use_of}
+use Rattle.check_series.specs.Below.check_frames.specs.declared.way.Way.{Way}
 
 module _ (setting : Setting) (scope : ScopeTree) where
   pub target_begun : (target_place : Place) (name : Name) (name_place : Place) (way : Way) (form : FormTree)

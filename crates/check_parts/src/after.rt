@@ -1,13 +1,13 @@
 // What comes behind patterns.
 
 ghost use Rattle.std.specs.Prelude.{◌≡◌, IfOk};
-ghost use Rattle.check_scopes.specs.Told.{first_in, told};
-ghost use Rattle.check_frames.specs.Meant.{after_check, goal_check, next_check, scope_here};
+ghost use Rattle.check_series.specs.Below.check_scopes.specs.Told.{first_in, told};
+ghost use Rattle.check_series.specs.Below.check_frames.specs.Meant.{after_check, goal_check, next_check, scope_here};
 
-use check_frames::{After, Body, Goal, Here, Next};
-use check_scopes::{Refusals, Setting};
+use check_series::handed::check_frames::{After, Body, Goal, Here, Next};
+use check_series::handed::check_scopes::{Refusals, Setting};
+use check_series::handed::check_steps::{becomes, condition_next};
 use check_series::{binds_next, definitions_next, values_next};
-use check_steps::{becomes, condition_next};
 use std::alloc::Global;
 use vdm_kinds::OutOfMemory;
 

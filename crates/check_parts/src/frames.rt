@@ -1,16 +1,16 @@
 // What follows from the form of a part.
 
 ghost use Rattle.std.specs.Prelude.{◌≡◌, IfOk};
-ghost use Rattle.check_scopes.specs.Told.{first_in, told};
-ghost use Rattle.check_frames.specs.Meant.{frame_check, next_check, scope_here, step_check};
+ghost use Rattle.check_series.specs.Below.check_scopes.specs.Told.{first_in, told};
+ghost use Rattle.check_series.specs.Below.check_frames.specs.Meant.{frame_check, next_check, scope_here, step_check};
 
 use crate::alternatives::choice_next;
 use crate::node_parts::{condition_behind, part_behind};
 use crate::targets::{head_behind, target_behind, target_of_class_behind};
 use check_binds::bind_step_next;
-use check_frames::{Frame, Here, Next, Step};
-use check_scopes::{Refusals, Setting};
-use check_steps::givens_next;
+use check_series::handed::check_frames::{Frame, Here, Next, Step};
+use check_series::handed::check_scopes::{Refusals, Setting};
+use check_series::handed::check_steps::givens_next;
 use std::alloc::Global;
 use type_forms::Form;
 use vdm_kinds::OutOfMemory;

@@ -4,14 +4,14 @@ ghost use Rattle.std.specs.Prelude.{◌≡◌, IfOk, map};
 ghost use Rattle.class_checks.specs.Expressions.{want_faults};
 ghost use Rattle.class_checks.specs.Operators.{truth};
 ghost use Rattle.class_checks.specs.Results.{refusing};
-ghost use Rattle.check_scopes.specs.Told.{first_in, told};
-ghost use Rattle.check_shapes.specs.ShapeView.{seen_view, shape_view};
-ghost use Rattle.check_frames.specs.Meant.{body_check, next_check, part_seen, scope_here, spec_here};
+ghost use Rattle.check_series.specs.Below.check_scopes.specs.Told.{first_in, told};
+ghost use Rattle.check_series.specs.Below.check_shapes.specs.ShapeView.{seen_view, shape_view};
+ghost use Rattle.check_series.specs.Below.check_frames.specs.Meant.{body_check, next_check, part_seen, scope_here, spec_here};
 
-use check_frames::{Body, Here, Next, Rest};
-use check_scopes::Refusals;
-use check_shapes::{Seen, Shape, next_part, want_truth};
-use check_steps::{body_next, rest_next};
+use check_series::handed::check_frames::{Body, Here, Next, Rest};
+use check_series::handed::check_scopes::Refusals;
+use check_series::handed::check_shapes::{Seen, Shape, next_part, want_truth};
+use check_series::handed::check_steps::{body_next, rest_next};
 use type_forms::Form;
 use vdm_kinds::{OutOfMemory, Place};
 

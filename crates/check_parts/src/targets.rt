@@ -1,15 +1,17 @@
 // What is applied, and what a member is selected of.
 
 ghost use Rattle.std.specs.Prelude.{◌≡◌, IfOk};
-ghost use Rattle.check_scopes.specs.Told.{first_in, told};
-ghost use Rattle.check_scopes.specs.declared.setting.Setting.{Setting as AnySetting};
-ghost use Rattle.check_calls.specs.Selecting.{use_view};
-ghost use Rattle.check_frames.specs.Meant.{arguments_of, next_check, scope_here, target_check, target_of_class_check, use_of, value_behind};
+ghost use Rattle.check_series.specs.Below.check_scopes.specs.Told.{first_in, told};
+ghost use Rattle.check_series.specs.Below.check_scopes.specs.declared.setting.Setting.{Setting as AnySetting};
+ghost use Rattle.check_series.specs.Below.check_calls.specs.Selecting.{use_view};
+ghost use Rattle.check_series.specs.Below.check_frames.specs.Meant.{arguments_of, next_check, scope_here, target_check, target_of_class_check, use_of, value_behind};
 
-use check_calls::{Call, Use, selected_callee, selected_of_class, value_callee};
-use check_frames::{Here, Next, Rest, Way};
-use check_scopes::Refusals;
-use check_steps::called_next;
+use check_series::handed::check_calls::{
+    Call, Use, selected_callee, selected_of_class, value_callee,
+};
+use check_series::handed::check_frames::{Here, Next, Rest, Way};
+use check_series::handed::check_scopes::Refusals;
+use check_series::handed::check_steps::called_next;
 use expr_tree::Expr;
 use type_forms::Form;
 use vdm_kinds::{NameAt, OutOfMemory, Place};

@@ -14,8 +14,8 @@ use Rattle.expr_tree.specs.View.{pattern_view, pattern_views, pattern_trees, map
 use Rattle.class_checks.specs.Patterns.{pattern_count, pattern_faults, patterns_faults, maplets_faults}
 use Rattle.class_checks.specs.Results.{first_among}
 use Rattle.class_checks.specs.TypeNames.{record_faults}
-use Rattle.check_scopes.specs.Told.{first_in, first_among-++}
-use Rattle.check_scopes.specs.declared.refusals.Refusals.{Refusals}
+use Rattle.check_types.specs.Below.check_scopes.specs.Told.{first_in, first_among-++}
+use Rattle.check_types.specs.Below.check_scopes.specs.declared.refusals.Refusals.{Refusals}
 use Rattle.check_patterns.proofs.Shapes.{view-Record}
 
 -- two lists of refusals, one behind the other

@@ -5,7 +5,7 @@ use Rattle.form_meaning.specs.Forms.{FormTree}
 use Rattle.shared_names.specs.declared.shared_map.SharedMap.{SharedMap}
 use Rattle.class_checks.specs.Patterns.{with_each}
 use Rattle.class_checks.specs.Scopes.{LocalForm, ScopeTree}
-use Rattle.check_scopes.specs.declared.setting.Setting.{Setting}
+use Rattle.check_types.specs.Below.check_scopes.specs.declared.setting.Setting.{Setting}
 use Rattle.check_patterns.specs.Shown.{local_view, bindings_in, scopes_at}
 use Rattle.check_patterns.specs.declared.local_form.LocalForm.{LocalForm as Local}
 

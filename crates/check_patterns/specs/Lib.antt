@@ -1,3 +1,4 @@
+pub mod Below
 pub mod Givens
 pub mod Pending
 pub mod Shown

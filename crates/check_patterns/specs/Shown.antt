@@ -8,8 +8,8 @@ use Rattle.form_meaning.specs.Forms.{FormTree}
 use Rattle.shared_names.specs.Maps.{held}
 use Rattle.shared_names.specs.declared.shared_map.SharedMap.{SharedMap}
 use Rattle.class_checks.specs.Scopes.{LocalForm, ScopeTree}
-use Rattle.check_scopes.specs.Told.{scope_at}
-use Rattle.check_scopes.specs.declared.setting.Setting.{Setting}
+use Rattle.check_types.specs.Below.check_scopes.specs.Told.{scope_at}
+use Rattle.check_types.specs.Below.check_scopes.specs.declared.setting.Setting.{Setting}
 use Rattle.check_patterns.specs.declared.local_form.LocalForm.{LocalForm as Local}
 use Rattle.check_patterns.specs.declared.one_or_many.Patterns.{Patterns}
 use Rattle.check_patterns.specs.declared.one_or_many.Patterns.TheVariants.{One, Many}

@@ -5,7 +5,7 @@ ghost use Rattle.vdm_kinds.specs.declared.name.Name.{Name as NameOf};
 ghost use Rattle.abstract_syntax.specs.Classes.{SpecTree};
 ghost use Rattle.expr_tree.specs.View.{pattern_view};
 ghost use Rattle.class_checks.specs.Patterns.{binds, binds_each};
-ghost use Rattle.check_scopes.specs.Told.{spec_in, types_in};
+ghost use Rattle.check_types.specs.Below.check_scopes.specs.Told.{spec_in, types_in};
 ghost use Rattle.check_patterns.specs.Pending.{pending_binds};
 ghost use Rattle.check_patterns.specs.Shown.{local_view, patterns_of};
 
@@ -13,7 +13,7 @@ use crate::bound::{all_bound, put, with_pattern};
 use crate::local_form::LocalForm;
 use crate::one_or_many::Patterns;
 use crate::pending::{Binding, Pending};
-use check_scopes::Setting;
+use check_types::handed::check_scopes::Setting;
 use expr_tree::Pattern;
 use std::alloc::Global;
 use type_forms::Form;

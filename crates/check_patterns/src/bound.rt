@@ -8,7 +8,7 @@ ghost use Rattle.class_checks.specs.Patterns.{binds, binds_each, binds_maplets, 
 ghost use Rattle.class_checks.specs.Operators.{any_map};
 ghost use Rattle.form_meaning.specs.Parts.{key, value};
 ghost use Rattle.class_checks.specs.Scopes.{LocalForm as FoundForm};
-ghost use Rattle.check_scopes.specs.Told.{spec_in, types_in};
+ghost use Rattle.check_types.specs.Below.check_scopes.specs.Told.{spec_in, types_in};
 ghost use Rattle.check_patterns.specs.Pending.{all_found, found_before, pending_binds};
 ghost use Rattle.check_patterns.specs.Shown.{local_view};
 
@@ -17,7 +17,7 @@ use crate::local_form::LocalForm;
 use crate::pending::{Binding, Pending};
 use crate::records::{field_form, record_parts};
 use crate::tuples::tuple_part;
-use check_scopes::Setting;
+use check_types::handed::check_scopes::Setting;
 use expr_tree::{MapletPattern, Pattern};
 use std::alloc::Global;
 use type_forms::{Form, PartOf};

@@ -3,10 +3,10 @@
 ghost use Rattle.std.specs.Prelude.{◌≡◌, IfOk};
 ghost use Rattle.class_checks.specs.Operators.{any_set, any_sequence, any_map, sequence_with};
 ghost use Rattle.class_checks.specs.Patterns.{parts_of, elements_of, items_of};
-ghost use Rattle.check_scopes.specs.Told.{spec_in};
+ghost use Rattle.check_types.specs.Below.check_scopes.specs.Told.{spec_in};
 ghost use Rattle.type_forms.specs.Taking.{take_of};
 
-use check_scopes::Setting;
+use check_types::handed::check_scopes::Setting;
 use std::alloc::Global;
 use type_forms::{Alt, Form, PartOf, taken};
 use vdm_kinds::OutOfMemory;

@@ -1,6 +1,12 @@
 //! What patterns bind, by forms; what is refused of the records in them; and the expressions in brackets in them.
 #![tactic(auto)]
 
+/// Crates below that are handed on.
+pub mod handed {
+    pub use check_types;
+    pub use check_types::handed::{check_scopes, spec_table};
+}
+
 mod binding;
 mod bound;
 mod brackets;

@@ -2,9 +2,9 @@
 
 ghost use Rattle.std.specs.Prelude.{◌≡◌, Some, drop, IfOk};
 ghost use Rattle.class_checks.specs.Patterns.{first_form, made_fields, record_parts};
-ghost use Rattle.check_scopes.specs.Told.{spec_in, types_in};
+ghost use Rattle.check_types.specs.Below.check_scopes.specs.Told.{spec_in, types_in};
 
-use check_scopes::Setting;
+use check_types::handed::check_scopes::Setting;
 use check_types::{field_forms, record_type};
 use std::alloc::Global;
 use type_forms::{Alt, Form};

@@ -5,11 +5,11 @@ ghost use Rattle.expr_tree.specs.View.{pattern_view, pattern_views, pattern_tree
 ghost use Rattle.class_checks.specs.Patterns.{pattern_faults, patterns_faults, maplets_faults, pattern_count};
 ghost use Rattle.class_checks.specs.Results.{first_among};
 ghost use Rattle.class_checks.specs.TypeNames.{record_faults};
-ghost use Rattle.check_scopes.specs.Told.{spec_in, types_in, first_in};
+ghost use Rattle.check_types.specs.Below.check_scopes.specs.Told.{spec_in, types_in, first_in};
 ghost use Rattle.check_patterns.specs.Shown.{patterns_of};
 
 use crate::one_or_many::Patterns;
-use check_scopes::{Refusals, Setting};
+use check_types::handed::check_scopes::{Refusals, Setting};
 use check_types::record_faults;
 use expr_tree::{MapletPattern, Pattern};
 use std::mem;

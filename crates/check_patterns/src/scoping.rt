@@ -6,7 +6,7 @@ ghost use Rattle.class_checks.specs.Scopes.{all_bound, bound_too};
 ghost use Rattle.check_patterns.specs.Shown.{local_view};
 
 use crate::local_form::LocalForm;
-use check_scopes::Locals;
+use check_types::handed::check_scopes::Locals;
 use std::alloc::Global;
 use vdm_kinds::OutOfMemory;
 

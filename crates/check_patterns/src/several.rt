@@ -4,14 +4,14 @@ ghost use Rattle.std.specs.Prelude.{◌≡◌, ◌++◌, ◌∷◌, [], map, IfO
 ghost use Rattle.shared_names.specs.Maps.{held};
 ghost use Rattle.expr_tree.specs.View.{pattern_views, pattern_trees};
 ghost use Rattle.class_checks.specs.Patterns.{bindings_of, scopes_behind, scope_if, some_empty, with_each};
-ghost use Rattle.check_scopes.specs.Told.{spec_in, scope_at, types_in};
-ghost use Rattle.check_scopes.specs.declared.setting.Setting.{Setting as AnySetting};
+ghost use Rattle.check_types.specs.Below.check_scopes.specs.Told.{spec_in, scope_at, types_in};
+ghost use Rattle.check_types.specs.Below.check_scopes.specs.declared.setting.Setting.{Setting as AnySetting};
 ghost use Rattle.check_patterns.specs.Shown.{local_view, scopes_at, bindings_in, is_nil};
 
 use crate::binding::binds;
 use crate::local_form::LocalForm;
 use crate::scoping::inside;
-use check_scopes::{Locals, Setting};
+use check_types::handed::check_scopes::{Locals, Setting};
 use expr_tree::Pattern;
 use std::alloc::Global;
 use type_forms::Form;

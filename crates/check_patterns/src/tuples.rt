@@ -5,11 +5,11 @@ ghost use Rattle.std.specs.Borrow.{Bor};
 ghost use Rattle.form_meaning.specs.Forms.{FormTree, no_form, joined, tuple_alt, form_count};
 ghost use Rattle.form_meaning.specs.Parts.{taken, taken_of, form_at};
 ghost use Rattle.class_checks.specs.Patterns.{parts_of, part_of_length, tuple_of, any_parts};
-ghost use Rattle.check_scopes.specs.Told.{spec_in};
+ghost use Rattle.check_types.specs.Below.check_scopes.specs.Told.{spec_in};
 ghost use Rattle.type_forms.specs.Taking.{form_or_none};
 ghost use Rattle.type_forms.specs.Tree.{alt_of, alt_trees, form_trees};
 
-use check_scopes::Setting;
+use check_types::handed::check_scopes::Setting;
 use std::alloc::Global;
 use type_forms::{Alt, Form, Node, joined};
 use vdm_kinds::OutOfMemory;

@@ -1,6 +1,11 @@
 //! Where an expression stands, as the checker holds it, and the first refusal so far.
 #![tactic(auto)]
 
+/// Crates below that are handed on.
+pub mod handed {
+    pub use spec_table;
+}
+
 mod refusals;
 mod scope;
 mod seen_types;

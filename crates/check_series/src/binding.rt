@@ -3,11 +3,11 @@
 ghost use Rattle.std.specs.Prelude.{◌≡◌, IfOk, map};
 ghost use Rattle.expr_tree.specs.View.{bind_trees, bind_view, defined_trees, defined_view};
 ghost use Rattle.class_checks.specs.Expressions.{defined_in};
-ghost use Rattle.check_patterns.specs.Shown.{local_view, patterns_of};
-ghost use Rattle.check_frames.specs.Meant.{bind_check, binds_check, boxed, inside_of, let_body, let_check, next_check, scope_here, spec_here};
+ghost use Rattle.check_steps.specs.Below.check_patterns.specs.Shown.{local_view, patterns_of};
+ghost use Rattle.check_steps.specs.Below.check_frames.specs.Meant.{bind_check, binds_check, boxed, inside_of, let_body, let_check, next_check, scope_here, spec_here};
 
-use check_frames::{BindStep, Binds, Here, Inside, Next, Step};
-use check_patterns::{LocalForm, Patterns, inside as locals_inside};
+use check_steps::handed::check_frames::{BindStep, Binds, Here, Inside, Next, Step};
+use check_steps::handed::check_patterns::{LocalForm, Patterns, inside as locals_inside};
 use check_steps::{becomes, inside_next, part_of, place_of};
 use expr_tree::{Defined, Expr};
 use vdm_kinds::OutOfMemory;

@@ -3,9 +3,9 @@
 ghost use Rattle.std.specs.Prelude.{◌≡◌, IfOk, map};
 ghost use Rattle.expr_tree.specs.View.{branch_trees, branch_view, maybe_view};
 ghost use Rattle.class_checks.specs.Expressions.{others_in};
-ghost use Rattle.check_frames.specs.Meant.{boxed, branch_check, branches_check, last_check, next_check, scope_here, spec_here};
+ghost use Rattle.check_steps.specs.Below.check_frames.specs.Meant.{boxed, branch_check, branches_check, last_check, next_check, scope_here, spec_here};
 
-use check_frames::{Branches, Choice, Here, Next, Step};
+use check_steps::handed::check_frames::{Branches, Choice, Here, Next, Step};
 use check_steps::{part_of, place_of};
 use expr_tree::Expr;
 use type_forms::Form;

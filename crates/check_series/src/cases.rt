@@ -2,14 +2,16 @@
 
 ghost use Rattle.std.specs.Prelude.{◌≡◌, IfOk, map, drop};
 ghost use Rattle.expr_tree.specs.View.{case_view, maybe_view, pattern_views, view_of};
-ghost use Rattle.check_scopes.specs.Told.{first_in, told};
-ghost use Rattle.check_frames.specs.Meant.{at, case_behind, case_check, cases_check, next_check, scope_here, value_check, values_check};
+ghost use Rattle.check_steps.specs.Below.check_scopes.specs.Told.{first_in, told};
+ghost use Rattle.check_steps.specs.Below.check_frames.specs.Meant.{at, case_behind, case_check, cases_check, next_check, scope_here, value_check, values_check};
 
 use crate::branching::others_next;
-use check_frames::{After, CaseValues, Cases, Choice, Frame, Goal, Here, Next, Step};
-use check_patterns::{Patterns, givens, patterns_faults, scopes_behind};
-use check_scopes::{Locals, Refusals};
 use check_steps::givens_next;
+use check_steps::handed::check_frames::{
+    After, CaseValues, Cases, Choice, Frame, Goal, Here, Next, Step,
+};
+use check_steps::handed::check_patterns::{Patterns, givens, patterns_faults, scopes_behind};
+use check_steps::handed::check_scopes::{Locals, Refusals};
 use expr_tree::Case;
 use type_forms::Form;
 use vdm_kinds::OutOfMemory;

@@ -1,3 +1,4 @@
+pub mod Below
 pub mod InTurn
 pub mod Numbered
 pub mod ShapeView

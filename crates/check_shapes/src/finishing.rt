@@ -4,17 +4,17 @@ ghost use Rattle.std.specs.Prelude.{◌≡◌, map, IfOk};
 ghost use Rattle.abstract_syntax.specs.Classes.{SpecTree};
 ghost use Rattle.class_checks.specs.Operators.{set_with, sequence_with, number};
 ghost use Rattle.class_checks.specs.Shapes.{finished, of_changed, of_map, of_operator, of_part, of_prefix, of_sequence, of_set, of_subsequence, of_tuple};
-ghost use Rattle.check_scopes.specs.Told.{spec_in};
+ghost use Rattle.check_fields.specs.Below.check_scopes.specs.Told.{spec_in};
 ghost use Rattle.check_shapes.specs.ShapeView.{names_of, seen_view, shape_view};
 
 use crate::gathering::{forms_seen, is_unfit, keys_seen, parts_seen, seen_at, values_seen};
 use crate::shape::{Seen, Shape};
 use crate::taking::{Taking, taken_by};
+use check_fields::handed::check_scopes::Setting;
 use check_operators::{
     Kind, Operands, map_with, of_one, of_two, sequence_of, sequence_with, set_with, source,
     way_of_one, way_of_two,
 };
-use check_scopes::Setting;
 use expr_tree::FieldValue;
 use std::alloc::Global;
 use type_forms::{Alt, Form, PartOf};

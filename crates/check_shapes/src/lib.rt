@@ -1,6 +1,11 @@
 //! What parts of a node have to meet, and the form that follows from theirs. It hands on what operators have.
 #![tactic(auto)]
 
+/// Crates below that are handed on.
+pub mod handed {
+    pub use check_fields;
+}
+
 mod finishing;
 mod gathering;
 mod records;

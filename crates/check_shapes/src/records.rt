@@ -5,11 +5,11 @@ ghost use Rattle.std.specs.List.{list_all};
 ghost use Rattle.class_checks.specs.Shapes.{changed_field, has_all, has_field};
 ghost use Rattle.form_meaning.specs.Forms.{record_alt};
 ghost use Rattle.type_forms.specs.Tree.{alt_of};
-ghost use Rattle.check_scopes.specs.Told.{spec_in};
+ghost use Rattle.check_fields.specs.Below.check_scopes.specs.Told.{spec_in};
 ghost use Rattle.check_shapes.specs.ShapeView.{names_of};
 
+use check_fields::handed::check_scopes::Setting;
 use check_fields::{field_form, has_field};
-use check_scopes::Setting;
 use expr_tree::FieldValue;
 use std::alloc::Global;
 use type_forms::{Alt, Form};

@@ -7,13 +7,13 @@ ghost use Rattle.form_meaning.specs.Parts.{taken, taken_of};
 ghost use Rattle.class_checks.specs.Shapes.{any_or_some, has_all, has_part, kept, part_numbered, some_alt};
 ghost use Rattle.type_forms.specs.Taking.{form_or_none};
 ghost use Rattle.type_forms.specs.Tree.{alt_of, alt_trees};
-ghost use Rattle.check_scopes.specs.Told.{spec_in};
+ghost use Rattle.check_fields.specs.Below.check_scopes.specs.Told.{spec_in};
 ghost use Rattle.check_shapes.specs.Numbered.{is_within, numbered};
 ghost use Rattle.check_shapes.specs.ShapeView.{names_of};
 ghost use Rattle.check_shapes.specs.Takings.{fits_by, take_by};
 
 use crate::records::{changed_field, has_all};
-use check_scopes::Setting;
+use check_fields::handed::check_scopes::Setting;
 use expr_tree::FieldValue;
 use std::alloc::Global;
 use type_forms::{Alt, Form, Node, joined};

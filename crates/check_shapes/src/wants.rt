@@ -7,13 +7,13 @@ ghost use Rattle.class_checks.specs.Results.{first_among};
 ghost use Rattle.class_checks.specs.Shapes.{changed_want, field_want, fits, like, name_behind, operand_want, part_faults, seen_as, subsequence_want, want_behind, want_of};
 ghost use Rattle.class_checks.specs.TypeNames.{meets};
 ghost use Rattle.type_forms.specs.Tree.{form_trees};
-ghost use Rattle.check_scopes.specs.Told.{first_in, spec_in};
+ghost use Rattle.check_fields.specs.Below.check_scopes.specs.Told.{first_in, spec_in};
 ghost use Rattle.check_shapes.specs.ShapeView.{names_of, seen_view, shape_view};
 
 use crate::shape::{Seen, Shape};
 use crate::taking::{Taking, fits_some, taken_by};
+use check_fields::handed::check_scopes::{Refusals, Setting};
 use check_operators::{Kind, is_like, left_want, operand_want, subsequence_want};
-use check_scopes::{Refusals, Setting};
 use expr_tree::FieldValue;
 use std::alloc::Global;
 use type_forms::Form;

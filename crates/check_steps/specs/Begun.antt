@@ -9,8 +9,8 @@ use Rattle.class_checks.specs.Expressions.{branches, check, others_in, where_tru
 use Rattle.class_checks.specs.Patterns.{patterns_faults}
 use Rattle.class_checks.specs.Results.{Checked, after, gives, refusing}
 use Rattle.class_checks.specs.Scopes.{Locals, ScopeTree, type_scope}
-use Rattle.check_scopes.specs.Told.{scope_at, spec_in}
-use Rattle.check_scopes.specs.declared.setting.Setting.{Setting}
+use Rattle.check_calls.specs.Below.check_scopes.specs.Told.{scope_at, spec_in}
+use Rattle.check_calls.specs.Below.check_scopes.specs.declared.setting.Setting.{Setting}
 use Rattle.check_frames.specs.Meant.{
   after_check,
   at,

@@ -8,8 +8,8 @@ use Rattle.class_checks.specs.Shapes.{of_call}
 use Rattle.type_forms.specs.Tree.{form_trees}
 use Rattle.check_calls.specs.Calling.{Called, Calls}
 use Rattle.check_calls.specs.declared.callee.Callee.{Callee}
-use Rattle.check_scopes.specs.Told.{told}
-use Rattle.check_scopes.specs.declared.setting.Setting.{Setting}
+use Rattle.check_calls.specs.Below.check_scopes.specs.Told.{told}
+use Rattle.check_calls.specs.Below.check_scopes.specs.declared.setting.Setting.{Setting}
 use Rattle.check_frames.specs.Meant.{called_with, next_check, rest_check}
 use Rattle.check_frames.specs.Steps.{refused_next}
 use Rattle.check_frames.specs.declared.next.Next.{Next}

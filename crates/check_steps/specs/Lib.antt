@@ -1,4 +1,5 @@
 pub mod Begun
+pub mod Below
 pub mod Calls
 pub mod Firsts
 pub mod Listed

@@ -62,9 +62,9 @@ use Rattle.class_checks.specs.Patterns.{bindings_of, patterns_faults, scopes_beh
 use Rattle.class_checks.specs.Results.{Checked, after, refusing}
 use Rattle.class_checks.specs.Scopes.{LocalForm, ScopeTree, type_scope}
 use Rattle.class_checks.specs.Shapes.{Seen, ShapeTree, all_done, of_changed, of_map}
-use Rattle.check_scopes.specs.Told.{spec_in}
-use Rattle.check_scopes.specs.declared.setting.Setting.{Setting}
-use Rattle.check_patterns.specs.Givens.{givens-listed, givens_each-listed}
+use Rattle.check_calls.specs.Below.check_scopes.specs.Told.{spec_in}
+use Rattle.check_calls.specs.Below.check_scopes.specs.declared.setting.Setting.{Setting}
+use Rattle.check_frames.specs.Below.check_patterns.specs.Givens.{givens-listed, givens_each-listed}
 use Rattle.check_frames.specs.Meant.{
   bind_check,
   bound_behind,

@@ -10,8 +10,8 @@ use Rattle.class_checks.specs.Operators.{truth}
 use Rattle.class_checks.specs.Results.{Checked, after, refusing}
 use Rattle.class_checks.specs.Scopes.{LocalForm, ScopeTree}
 use Rattle.class_checks.specs.Shapes.{Seen, ShapeTree}
-use Rattle.check_scopes.specs.Told.{spec_in}
-use Rattle.check_scopes.specs.declared.setting.Setting.{Setting}
+use Rattle.check_calls.specs.Below.check_scopes.specs.Told.{spec_in}
+use Rattle.check_calls.specs.Below.check_scopes.specs.declared.setting.Setting.{Setting}
 use Rattle.check_frames.specs.Meant.{
   bind_behind,
   bind_check,

@@ -7,9 +7,9 @@ use Rattle.form_meaning.specs.Forms.{FormTree}
 use Rattle.class_checks.specs.Patterns.{bindings_of, scopes_behind}
 use Rattle.class_checks.specs.Results.{Checked}
 use Rattle.class_checks.specs.Scopes.{LocalForm, Locals, ScopeTree, all_bound, type_scope}
-use Rattle.check_scopes.specs.Told.{scope_at, spec_in}
-use Rattle.check_scopes.specs.declared.setting.Setting.{Setting}
-use Rattle.check_patterns.specs.Givens.{given_in_each, givens_list}
+use Rattle.check_calls.specs.Below.check_scopes.specs.Told.{scope_at, spec_in}
+use Rattle.check_calls.specs.Below.check_scopes.specs.declared.setting.Setting.{Setting}
+use Rattle.check_frames.specs.Below.check_patterns.specs.Givens.{given_in_each, givens_list}
 use Rattle.check_frames.specs.Meant.{after_check, case_behind, givens_check, inside_check, inside_of, values_in}
 use Rattle.check_frames.specs.declared.after.After.{After}
 use Rattle.check_frames.specs.declared.cases.Cases.{Cases}

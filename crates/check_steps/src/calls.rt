@@ -7,8 +7,8 @@ ghost use Rattle.check_frames.specs.Meant.{next_check, rest_check, scope_here};
 
 use crate::parts::rest_next;
 use check_calls::Callee;
+use check_frames::handed::check_shapes::Shape;
 use check_frames::{Here, Next, Rest};
-use check_shapes::Shape;
 use vdm_kinds::OutOfMemory;
 
 /// The first of the arguments; with none, what is given.

@@ -1,6 +1,14 @@
 //! What comes next of the parts of a node, of a condition and what stands under it, behind patterns, and of a call.
 #![tactic(auto)]
 
+/// Crates below that are handed on.
+pub mod handed {
+    pub use check_calls;
+    pub use check_calls::handed::{check_names, check_scopes, spec_table};
+    pub use check_frames;
+    pub use check_frames::handed::{check_patterns, check_shapes, check_types};
+}
+
 mod after;
 mod boxes;
 mod calls;

@@ -3,12 +3,12 @@
 ghost use Rattle.std.specs.Prelude.{◌≡◌, IfOk, map};
 ghost use Rattle.expr_tree.specs.View.{view_of, views_of, expr_trees, maplet_trees, maplet_view, field_value_trees, field_value_view};
 ghost use Rattle.class_checks.specs.Expressions.{listed, pairs_in, changed as changed_fields, changed_names};
-ghost use Rattle.check_shapes.specs.ShapeView.{shape_view, seen_view};
+ghost use Rattle.check_frames.specs.Below.check_shapes.specs.ShapeView.{shape_view, seen_view};
 ghost use Rattle.class_checks.specs.Shapes.{all_done};
 ghost use Rattle.check_frames.specs.Meant.{boxed, spec_here, scope_here, next_check, part_check, rest_check};
 
+use check_frames::handed::check_shapes::{Seen, Shape, finished};
 use check_frames::{Here, Next, Rest, Step};
-use check_shapes::{Seen, Shape, finished};
 use expr_tree::{Expr, FieldValue, Maplet};
 use vdm_kinds::OutOfMemory;
 

@@ -1,6 +1,12 @@
 //! What is refused of the names of types and classes, and which records a name makes.
 #![tactic(auto)]
 
+/// Crates below that are handed on.
+pub mod handed {
+    pub use check_scopes;
+    pub use check_scopes::handed::spec_table;
+}
+
 mod classes;
 mod names;
 mod records;

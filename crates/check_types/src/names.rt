@@ -10,13 +10,13 @@ ghost use Rattle.class_checks.specs.TypeNames.{in_class_faults, meant_faults, na
 ghost use Rattle.check_scopes.specs.Told.{first_in, spec_in, types_in};
 ghost use Rattle.check_types.specs.Refusing.{refused_as, refused_by};
 ghost use Rattle.expr_tree.specs.TypeDefView.{type_def_view};
-ghost use Rattle.spec_table.specs.Meanings.{IsOwned, Owns, meant_view};
+ghost use Rattle.check_scopes.specs.Below.spec_table.specs.Meanings.{IsOwned, Owns, meant_view};
 
 use crate::classes::is_class;
+use check_scopes::handed::spec_table::{Item, Meant, Owner};
 use check_scopes::{Refusals, Setting};
 use class_meaning::Ask;
 use expr_tree::TypeDef;
-use spec_table::{Item, Meant, Owner};
 use vdm_kinds::{Name, Place, SpecKind, TypeName};
 
 /// Refuses the name of a type that may not be named here. `place` is where the whole name begins.

@@ -43,6 +43,7 @@ fn answer<R: Clock>(rt: &R, line: &mut Line<'_>) {
     match line.word() {
         "time" => answer_time(rt, line),
         "main" => row_calls::answer(line),
+        "check" => row_checks::answer(rt, line),
         word => answer_over_desk(line, word),
     }
 }
@@ -53,6 +54,7 @@ fn answer_time<R: Clock>(rt: &R, line: &mut Line<'_>) {
         word @ ("statement" | "specification") => row_class_times::answer_time(rt, line, word),
         word @ ("table" | "look-ups") => row_table_times::answer_time(rt, line, word),
         "operator" => row_operator_times::answer_time(rt, line),
+        "check" => row_checks::answer_time(rt, line),
         "bind" => row_bindings::answer_time(rt, line),
         word => row_values::answer_time(rt, line, word),
     }

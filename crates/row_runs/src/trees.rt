@@ -1,12 +1,10 @@
-// `tree`: the last tree. `spec TEXT`: a specification, or its refusal. `accepts TEXT`: whether it is one. `expr TEXT`: the
-// tree of an expression behind a specification, or its refusal. `terms`: how many terms the last tree has.
+// `tree`: the last tree. `spec TEXT`: a specification, or what `run` refuses of it. `accepts TEXT`: whether it refuses nothing.
+// `expr TEXT`: the tree of an expression behind a specification, or what `run` refuses. `terms`: how many terms the last tree has.
 
 use row_shown::{say_spec, say_tree};
 use row_trees::TreeDesk;
 use row_words::Line;
-use text_reader::read_specification;
 use vdm_kinds::{Halt, SpecFault};
-use vdm_names::Names;
 use vdm_tree::{Expr, Literal, Spec};
 
 type ReadSpec = Result<Spec, Halt<SpecFault>>;
@@ -49,7 +47,7 @@ fn expression(desk: &mut TreeDesk, line: &mut Line<'_>) {
     let text = line.bytes();
     desk.read(line);
     match desk.expression(line.alloc(), &text) {
-        Ok(tree) => say_tree(line, &tree),
+        Ok(checked) => say_tree(line, checked.expr()),
         Err(Halt::Of(fault)) => line.say_refusal(fault),
         Err(Halt::OutOfMemory) => line.fall_short(),
     }
@@ -57,17 +55,7 @@ fn expression(desk: &mut TreeDesk, line: &mut Line<'_>) {
 
 pub(crate) fn specification(desk: &mut TreeDesk, line: &mut Line<'_>, word: &str) {
     let text = line.bytes();
-    match Names::new(line.alloc()) {
-        Ok(mut names) => {
-            let read = read_specification(line.alloc(), &text, &mut names);
-            desk.plain.names = names;
-            say_read(desk, line, word, read);
-        }
-        Err(_) => line.fall_short(),
-    }
-}
-
-fn say_read(desk: &TreeDesk, line: &mut Line<'_>, word: &str, read: ReadSpec) {
+    let read = desk.specification(line.alloc(), &text);
     if word == "accepts" {
         say_accepted(line, read);
     } else {

@@ -1,6 +1,6 @@
 // Specifications and expressions in requests.
 
-ghost use Rattle.std.specs.Prelude.{◌≡◌};
+ghost use Rattle.std.specs.Prelude.{◌≡◌, IfOk};
 ghost use Rattle.vdm_kinds.specs.NameList.{built_in_names};
 
 use crate::tree_desk::TreeDesk;
@@ -8,51 +8,69 @@ use row_desk::MOST_NAMES;
 use row_words::Line;
 use std::alloc::Global;
 use std::mem;
-use text_reader::{read_expression, read_specification};
-use vdm_kinds::{Halt, Place, SpecFault};
+use text_reader::handed::spec_check::CheckedExpr;
+use text_reader::{parse_expression, read_texts};
+use vdm_kinds::{Halt, OutOfMemory, Place, SpecFault};
 use vdm_names::Names;
 use vdm_tree::{Block, ClassDef, Expr, Spec, VariableItem};
+
+/// What stands behind a specification that is read by itself: `run` wants an expression.
+const ONE: &[u8] = b"1";
 
 impl TreeDesk {
     /// Reads the specification that stands next, whose names are the only ones then.
     pub(crate) fn read_spec(&mut self, line: &mut Line<'_>) {
         let text = line.bytes();
-        match Names::new(line.alloc()) {
-            Ok(names) => self.read_spec_from(line, &text, names),
-            Err(_) => line.fall_short(),
-        }
-    }
-
-    fn read_spec_from(&mut self, line: &mut Line<'_>, text: &[u8], names: Names)
-        requires { names ≡ built_in_names }
-    {
-        self.plain.names = names;
-        match read_specification(line.alloc(), text, &mut self.plain.names) {
-            Ok(spec) => self.put_spec(spec),
+        match self.specification(line.alloc(), &text) {
+            Ok(spec) => self.put_spec(spec, text),
             Err(halt) => line.stop(halt),
         }
     }
 
     // The one that was there is dropped here alone.
-    fn put_spec(&mut self, spec: Spec) {
+    fn put_spec(&mut self, spec: Spec, text: Vec<u8>) {
         self.spec = spec;
+        self.text = text;
+    }
+
+    /// What `run` says of a specification.
+    pub fn specification(&mut self, alloc: Global, text: &[u8]) -> Result<Spec, Halt<SpecFault>> {
+        let mut names = names_at_first(alloc)?;
+        let read = read_texts(alloc, text, ONE, &mut names);
+        self.plain.names = names;
+        let (spec, _one) = read?;
+        Ok(spec)
     }
 
     /// Reads the expression that stands next.
     pub(crate) fn read_expr(&mut self, line: &mut Line<'_>) {
         let text = line.bytes();
-        match self.expression(line.alloc(), &text) {
+        match self.owned(line.alloc(), &text) {
             Ok(tree) => line.put(&mut self.trees, tree),
             Err(halt) => line.stop(halt),
         }
     }
 
-    /// What the reader says of an expression behind the specification. More names than any row has are want of memory.
-    pub fn expression(&mut self, alloc: Global, text: &[u8]) -> Result<Expr, Halt<SpecFault>> {
+    // The tree of an expression that `run` accepts, read once more.
+    fn owned(&mut self, alloc: Global, text: &[u8]) -> Result<Expr, Halt<SpecFault>> {
+        let _checked = self.expression(alloc, text)?;
         if self.plain.names.len() > MOST_NAMES {
             return Err(Halt::OutOfMemory);
         }
-        read_expression(alloc, text, &self.spec, &mut self.plain.names)
+        parse_expression(alloc, text, &mut self.plain.names)
+    }
+
+    /// What `run` says of an expression behind the specification.
+    pub fn expression(
+        &mut self,
+        alloc: Global,
+        text: &[u8],
+    ) -> Result<CheckedExpr, Halt<SpecFault>> {
+        let mut names = names_at_first(alloc)?;
+        let read = read_texts(alloc, &self.text, text, &mut names);
+        self.plain.names = names;
+        let (_spec, expression) = read?;
+        Ok(expression)
     }
 
     /// The last variable of the first block has no value at first.
@@ -72,6 +90,15 @@ impl TreeDesk {
                 put_apart(line, &mut class.blocks, block);
             }
         }
+    }
+}
+
+fn names_at_first(alloc: Global) -> Result<Names, Halt<SpecFault>>
+    ensures { IfOk result (λ names. names ≡ built_in_names) }
+{
+    match Names::new(alloc) {
+        Ok(names) => Ok(names),
+        Err(OutOfMemory) => Err(Halt::OutOfMemory),
     }
 }
 

@@ -15,6 +15,8 @@ use vdm_tree::{Expr, Spec};
 pub struct TreeDesk {
     pub plain: Desk,
     pub spec: Spec,
+    /// The text of the specification.
+    pub text: Vec<u8>,
     pub trees: Vec<Expr>,
 }
 
@@ -26,6 +28,7 @@ impl TreeDesk {
             spec: Spec {
                 classes: Vec::new(alloc),
             },
+            text: Vec::new(alloc),
             trees: Vec::new(alloc),
         }
     }

@@ -1,4 +1,5 @@
 pub mod Definitions
 pub mod Statements
 pub mod Targets
+pub mod Threads
 pub mod WellTyped

@@ -1,16 +1,18 @@
--- An accepted specification has one class at most.
+-- Two texts that are accepted have one class at most.
 use Rattle.std.specs.Prelude.{◌≡◌, ℕ, ◌≤◌, List, [], ◌∷◌, length, Option, Some, None, Ok, Err}
-use Rattle.std.proofs.Common.{refl, subst, arith}
+use Rattle.std.proofs.Common.{refl, arith}
 use Rattle.abstract_syntax.specs.Classes.{ClassTree, SpecTree}
-use Rattle.vdm_kinds.specs.declared.part.Part.TheVariants.{Spec}
+use Rattle.abstract_syntax.specs.Expressions.{ExprTree}
+use Rattle.vdm_kinds.specs.declared.part.Part.TheVariants.{Expr}
 use Rattle.vdm_kinds.specs.declared.place.Place.{Place}
 use Rattle.vdm_kinds.specs.declared.spec_fault.SpecFault.{SpecFault}
 use Rattle.vdm_lexer.specs.Lexemes.{lexemes}
-use Rattle.text_phases.specs.Built.{or_behind, unbuilt_in_class, unbuilt_in_classes, unbuilt_in_spec}
-use Rattle.text_phases.specs.Naming.{spec_names_fault}
-use Rattle.text_phases.specs.Phases.{Read, by_forms, parsed_spec, accepted_spec, read_spec}
+use Rattle.spec_checks.specs.Threads.{run_fault}
+use Rattle.text_phases.specs.Built.{or_behind, left_out, unbuilt_fault, unbuilt_in_class, unbuilt_in_classes, unbuilt_in_spec, unbuilt_in_expr}
+use Rattle.text_phases.specs.Phases.{Read, unless_refused, main_checks_fault, parsed_expr, accepted_expr, IsAccepted}
 
--- a second class is not built
+-- ---- a second class is not built
+
 second_class : (unbuilt : Option Place) (place : Place) → or_behind unbuilt (Some place) ≡ None → ⊥
 second_class None place e = absurd (cc)
 second_class (Some other) place e = absurd (cc)
@@ -20,16 +22,37 @@ one_built [] e = omega arith
 one_built (class ∷ []) e = omega arith
 one_built (class ∷ other ∷ classes) e = absurd (second_class (unbuilt_in_class class) other.place e)
 
-by_forms_one : (names : List (List ℕ)) (tree : SpecTree) (unbuilt : Option Place) (told : Option SpecFault) (read : List (List ℕ) × SpecTree)
-    → unbuilt_in_spec tree ≡ unbuilt → by_forms names tree unbuilt told ≡ Ok read → length read.1.classes ≤ 1
-by_forms_one names tree (Some place) told read is e = absurd (cc)
-by_forms_one names tree None (Some fault) read is e = absurd (cc)
-by_forms_one names tree None None read is e =
-    let same : (names, tree) ≡ read = cc in subst (λ (r : List (List ℕ) × SpecTree). length r.1.classes ≤ 1) same (one_built tree.classes is)
+-- ---- what is accepted is built
 
-accepted_one : (parsed : Read SpecTree) (read : List (List ℕ) × SpecTree) → accepted_spec parsed ≡ Ok read → length read.1.classes ≤ 1
-accepted_one (Err told) read e = absurd (cc)
-accepted_one (Ok tree) read e = by_forms_one tree.0 tree.1 (unbuilt_in_spec tree.1) (spec_names_fault tree.1) read refl e
+-- nothing is refused where neither refuses
+neither : {A : Type 0} (first behind : Option A) → or_behind first behind ≡ None → behind ≡ None
+neither None behind e = e
+neither (Some a) behind e = absurd (cc)
 
-pub one_class : (text : List ℕ) (read : List (List ℕ) × SpecTree) → read_spec text ≡ Ok read → length read.1.classes ≤ 1
-one_class text read e = accepted_one (parsed_spec text (lexemes Spec text)) read e
+first_none : {A : Type 0} (first behind : Option A) → or_behind first behind ≡ None → first ≡ None
+first_none None behind e = refl
+first_none (Some a) behind e = absurd (cc)
+
+nothing_left : (place : Option Place) → left_out place ≡ None → place ≡ None
+nothing_left None e = refl
+nothing_left (Some place) e = absurd (cc)
+
+main_built : (spec : SpecTree) (tree : ExprTree) → main_checks_fault spec tree ≡ None → unbuilt_in_spec spec ≡ None
+unfolding main_checks_fault
+main_built spec tree e =
+    first_none (unbuilt_in_spec spec) (unbuilt_in_expr tree)
+    (nothing_left (or_behind (unbuilt_in_spec spec) (unbuilt_in_expr tree)) (neither (run_fault spec tree) (unbuilt_fault spec tree) e))
+
+unrefused : {T : Type 0} (names : List (List ℕ)) (tree : T) (fault : Option SpecFault) (read : List (List ℕ) × T)
+    → unless_refused names tree fault ≡ Ok read → fault ≡ None
+unrefused names tree None read e = refl
+unrefused names tree (Some told) read e = absurd (cc)
+
+expr_built : (spec : SpecTree) (parsed : Read ExprTree) (read : List (List ℕ) × ExprTree) → accepted_expr spec parsed ≡ Ok read → unbuilt_in_spec spec ≡ None
+expr_built spec (Err told) read e = absurd (cc)
+expr_built spec (Ok tree) read e = main_built spec tree.1 (unrefused tree.0 tree.1 (main_checks_fault spec tree.1) read e)
+
+pub one_class : (spec text : List ℕ) (names : List (List ℕ)) (tree : SpecTree) (expression : ExprTree)
+    → IsAccepted spec text names tree expression → length tree.classes ≤ 1
+one_class spec text names tree expression h =
+    one_built tree.classes (expr_built tree (parsed_expr h.first text (lexemes Expr text)) (names, expression) h.expression_tree)

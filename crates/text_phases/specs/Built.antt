@@ -4,9 +4,13 @@ use Rattle.vdm_kinds.specs.declared.access.Access.{Access}
 use Rattle.vdm_kinds.specs.declared.access.Level.{Level}
 use Rattle.vdm_kinds.specs.declared.access.Level.TheVariants.{Private, Protected, Public}
 use Rattle.vdm_kinds.specs.declared.basic_type.BasicType.TheVariants.{Nat}
+use Rattle.vdm_kinds.specs.declared.name.Name.{Name}
 use Rattle.vdm_kinds.specs.declared.name_at.NameAt.{NameAt}
 use Rattle.vdm_kinds.specs.declared.place.Place.{Place}
 use Rattle.vdm_kinds.specs.declared.sign.Sign.TheVariants.{Plus}
+use Rattle.vdm_kinds.specs.declared.spec_fault.SpecFault.{SpecFault}
+use Rattle.vdm_kinds.specs.declared.spec_kind.SpecKind.TheVariants.{LeftOut}
+use Rattle.vdm_lexer.specs.Lexemes.{fault_at}
 use Rattle.abstract_syntax.specs.Literals.{whole_literal}
 use Rattle.abstract_syntax.specs.Types.{TypeTree, basic_type, type_place}
 use Rattle.abstract_syntax.specs.Expressions.{
@@ -65,6 +69,7 @@ use Rattle.abstract_syntax.specs.Classes.{
   synchronisation,
   ClassTree,
   SpecTree,
+  is_same_name,
 }
 
 -- what stands first: the one in front, where there is one
@@ -281,10 +286,14 @@ abbrev pub unbuilt_in_condition : Option ExprTree → Option Place
 unbuilt_in_condition None = None
 unbuilt_in_condition (Some condition) = Some (expr_first condition)
 
--- the head of an operation is that of a public one with a body, without parameters
-abbrev pub unbuilt_in_head : OperationTree → Option Place
-unbuilt_in_head o =
-    or_behind (unless (is_public o.access) o.place)
+-- an operation with the name of its class makes new objects ready
+abbrev pub is_constructor : Name → OperationTree → Bool
+is_constructor class o = is_same_name o.name class
+
+-- the head of an operation is that of a public one with a body, without parameters, which is no constructor
+abbrev pub unbuilt_in_head : Name → OperationTree → Option Place
+unbuilt_in_head class o =
+    or_behind (unless (is_public o.access && not (is_constructor class o)) o.place)
     (or_behind (lacks_body o.body o.place)
     (or_behind (unbuilt_in_parameters o.parameters)
     (or_behind (unbuilt_in_result o.result_type) (unbuilt_in_patterns o.patterns))))
@@ -294,12 +303,14 @@ abbrev pub unbuilt_behind_head : OperationTree → Option Place
 unbuilt_behind_head o =
     or_behind (unbuilt_in_body o.result_type o.body) (or_behind (unbuilt_in_condition o.pre) (unbuilt_in_condition o.post))
 
-abbrev pub unbuilt_in_operation : OperationTree → Option Place
-unbuilt_in_operation o = or_behind (unbuilt_in_head o) (unbuilt_behind_head o)
+-- ... of a class with this name
+abbrev pub unbuilt_in_operation : Name → OperationTree → Option Place
+unbuilt_in_operation class o = or_behind (unbuilt_in_head class o) (unbuilt_behind_head o)
 
-abbrev pub unbuilt_in_operations : List OperationTree → Option Place
-unbuilt_in_operations [] = None
-unbuilt_in_operations (definition ∷ definitions) = or_behind (unbuilt_in_operation definition) (unbuilt_in_operations definitions)
+abbrev pub unbuilt_in_operations : Name → List OperationTree → Option Place
+unbuilt_in_operations class [] = None
+unbuilt_in_operations class (definition ∷ definitions) =
+    or_behind (unbuilt_in_operation class definition) (unbuilt_in_operations class definitions)
 
 -- ---- classes
 
@@ -318,15 +329,15 @@ unbuilt_in_rest [] = None
 unbuilt_in_rest (found ∷ blocks) = Some (block_place found)
 
 -- behind the variables: one block of operations, with one or more
-abbrev pub unbuilt_behind : List BlockTree → Option Place
-unbuilt_behind (operations (definition ∷ definitions) place ∷ blocks) =
-    or_behind (unbuilt_in_operations (definition ∷ definitions)) (unbuilt_in_rest blocks)
-unbuilt_behind blocks = unbuilt_in_rest blocks
+abbrev pub unbuilt_behind : Name → List BlockTree → Option Place
+unbuilt_behind class (operations (definition ∷ definitions) place ∷ blocks) =
+    or_behind (unbuilt_in_operations class (definition ∷ definitions)) (unbuilt_in_rest blocks)
+unbuilt_behind class blocks = unbuilt_in_rest blocks
 
 -- first one block of variables, with one or more
-abbrev pub unbuilt_in_blocks : List BlockTree → Option Place
-unbuilt_in_blocks (variables (item ∷ items) place ∷ blocks) = or_behind (unbuilt_in_items (item ∷ items)) (unbuilt_behind blocks)
-unbuilt_in_blocks blocks = unbuilt_behind blocks
+abbrev pub unbuilt_in_blocks : Name → List BlockTree → Option Place
+unbuilt_in_blocks class (variables (item ∷ items) place ∷ blocks) = or_behind (unbuilt_in_items (item ∷ items)) (unbuilt_behind class blocks)
+unbuilt_in_blocks class blocks = unbuilt_behind class blocks
 
 -- no class has a superclass
 abbrev pub unbuilt_in_superclasses : List NameAt → Option Place
@@ -334,7 +345,7 @@ unbuilt_in_superclasses [] = None
 unbuilt_in_superclasses (superclass ∷ superclasses) = Some superclass.place
 
 abbrev pub unbuilt_in_class : ClassTree → Option Place
-unbuilt_in_class class = or_behind (unbuilt_in_superclasses class.superclasses) (unbuilt_in_blocks class.blocks)
+unbuilt_in_class class = or_behind (unbuilt_in_superclasses class.superclasses) (unbuilt_in_blocks class.name class.blocks)
 
 -- no class, or one
 abbrev pub unbuilt_in_classes : List ClassTree → Option Place
@@ -344,6 +355,14 @@ unbuilt_in_classes (class ∷ other ∷ classes) = or_behind (unbuilt_in_class c
 
 abbrev pub unbuilt_in_spec : SpecTree → Option Place
 unbuilt_in_spec spec = unbuilt_in_classes spec.classes
+
+-- what has no meaning yet of a specification and an expression behind it is left out
+abbrev pub left_out : Option Place → Option SpecFault
+left_out None = None
+left_out (Some place) = Some (fault_at LeftOut place)
+
+abbrev pub unbuilt_fault : SpecTree → ExprTree → Option SpecFault
+unbuilt_fault spec tree = left_out (or_behind (unbuilt_in_spec spec) (unbuilt_in_expr tree))
 
 -- all of it is built
 abbrev pub IsBuilt : SpecTree → Type 0

@@ -1,4 +1,3 @@
 pub mod Built
-pub mod Naming
 pub mod Phases
 pub mod Worked

@@ -2,9 +2,8 @@
 use Rattle.std.specs.Prelude.{◌≡◌, ℕ, List, [], ◌∷◌, drop, Option, Some, None, Result, Ok, Err}
 use Rattle.vdm_kinds.specs.NameList.{built_in_names}
 use Rattle.vdm_kinds.specs.declared.part.Part.TheVariants.{Spec, Expr}
-use Rattle.vdm_kinds.specs.declared.place.Place.{Place}
 use Rattle.vdm_kinds.specs.declared.spec_fault.SpecFault.{SpecFault}
-use Rattle.vdm_kinds.specs.declared.spec_kind.SpecKind.TheVariants.{SyntaxFault, LeftOut}
+use Rattle.vdm_kinds.specs.declared.spec_kind.SpecKind.TheVariants.{SyntaxFault}
 use Rattle.abstract_syntax.specs.Expressions.{ExprTree}
 use Rattle.abstract_syntax.specs.Classes.{SpecTree}
 use Rattle.vdm_lexer.specs.declared.lexeme.Lexeme.{Lexeme}
@@ -13,8 +12,10 @@ use Rattle.grammar_fronts.specs.declared.kind.Kind.TheVariants as kind
 use Rattle.grammar_trees.specs.Reading.{expr_of}
 use Rattle.text_answers.specs.Answers.{Answer, answer, names_read}
 use Rattle.spec_answers.specs.Answers.{spec_answer, spec_names}
-use Rattle.text_phases.specs.Built.{unbuilt_in_spec, unbuilt_in_expr}
-use Rattle.text_phases.specs.Naming.{spec_names_fault, expr_names_fault}
+use Rattle.class_meaning.specs.Faults.{table_fault}
+use Rattle.spec_checks.specs.Definitions.{spec_fault}
+use Rattle.spec_checks.specs.Threads.{run_fault}
+use Rattle.text_phases.specs.Built.{or_behind, unbuilt_fault}
 
 -- the most bytes of a specification, 4 MiB, and of an expression, 64 KiB
 abbrev pub spec_limit : ℕ
@@ -34,15 +35,10 @@ abbrev pub with_names : {T : Type 0} → List (List ℕ) → Result T SpecFault 
 with_names names (Err told) = Err told
 with_names names (Ok tree) = Ok (names, tree)
 
--- a fault of the names refuses the tree
-abbrev pub by_names : {T : Type 0} → List (List ℕ) → T → Option SpecFault → Read T
-by_names names tree None = Ok (names, tree)
-by_names names tree (Some told) = Err told
-
--- a form that is not built refuses the tree, before any fault of the names
-abbrev pub by_forms : {T : Type 0} → List (List ℕ) → T → Option Place → Option SpecFault → Read T
-by_forms names tree None told = by_names names tree told
-by_forms names tree (Some place) told = Err (fault_at LeftOut place)
+-- what is refused of it refuses the text
+abbrev pub unless_refused : {T : Type 0} → List (List ℕ) → T → Option SpecFault → Read T
+unless_refused names tree None = Ok (names, tree)
+unless_refused names tree (Some told) = Err told
 
 -- ---- a specification
 
@@ -51,12 +47,16 @@ abbrev pub parsed_spec : List ℕ → Reading → Read SpecTree
 parsed_spec text (Err told) = Err told
 parsed_spec text (Ok found) = with_names (spec_names built_in_names text found) (spec_answer built_in_names text found)
 
--- what is built, and names, behind grammar
+-- the table of the classes, and then the checks
+unfoldable pub checks_fault : SpecTree → Option SpecFault
+checks_fault spec = or_behind (table_fault spec) (spec_fault spec)
+
+-- both, behind grammar
 abbrev pub accepted_spec : Read SpecTree → Read SpecTree
 accepted_spec (Err told) = Err told
-accepted_spec (Ok read) = by_forms read.0 read.1 (unbuilt_in_spec read.1) (spec_names_fault read.1)
+accepted_spec (Ok read) = unless_refused read.0 read.1 (checks_fault read.1)
 
--- lexing, grammar, what is built, names
+-- lexing, grammar, the table of the classes, checks
 abbrev pub read_spec : List ℕ → Read SpecTree
 read_spec text = accepted_spec (parsed_spec text (lexemes Spec text))
 
@@ -83,12 +83,16 @@ parsed_expr first text (Err told) = Err told
 parsed_expr first text (Ok found) =
     with_names (names_read kind.Expr first text found 0) (whole found (answer expr_of kind.Expr first text found 0))
 
--- what is built, and names, behind grammar
+-- the checks of the expression, and then what is built so far, of both
+unfoldable pub main_checks_fault : SpecTree → ExprTree → Option SpecFault
+main_checks_fault spec tree = or_behind (run_fault spec tree) (unbuilt_fault spec tree)
+
+-- both, behind grammar
 abbrev pub accepted_expr : SpecTree → Read ExprTree → Read ExprTree
 accepted_expr spec (Err told) = Err told
-accepted_expr spec (Ok read) = by_forms read.0 read.1 (unbuilt_in_expr read.1) (expr_names_fault spec read.1)
+accepted_expr spec (Ok read) = unless_refused read.0 read.1 (main_checks_fault spec read.1)
 
--- lexing, grammar, what is built, names: behind the names and the tree of a specification
+-- lexing, grammar, checks, what is built so far: behind the names and the tree of a specification
 abbrev pub read_expr : List (List ℕ) → SpecTree → List ℕ → Read ExprTree
 read_expr first spec text = accepted_expr spec (parsed_expr first text (lexemes Expr text))
 

@@ -4,7 +4,11 @@ ghost use Rattle.std.specs.Prelude.{◌≡◌, ℕ, ◌≤◌, ◌⊎◌, List, 
 ghost use Rattle.vdm_kinds.specs.declared.spec_fault.SpecFault.{SpecFault};
 ghost use Rattle.abstract_syntax.specs.Expressions.{ExprTree};
 ghost use Rattle.abstract_syntax.specs.Classes.{SpecTree};
-ghost use Rattle.text_phases.specs.Phases.{IsChecked, IsAccepted, spec_refusal, first_refusal};
+ghost use Rattle.class_meaning.specs.Faults.{table_fault};
+ghost use Rattle.spec_checks.specs.Definitions.{spec_fault};
+ghost use Rattle.spec_checks.specs.Threads.{run_fault};
+ghost use Rattle.text_phases.specs.Built.{unbuilt_fault};
+ghost use Rattle.text_phases.specs.Phases.{IsChecked, IsAccepted, checks_fault, main_checks_fault, spec_refusal, first_refusal};
 
 /// A specification has one tree or one refusal, and never both.
 pub fn one_specification()
@@ -29,7 +33,17 @@ pub fn one_answer()
     ensures first { (spec text : List ℕ) (fault : SpecFault) → spec_refusal spec ≡ Some fault → first_refusal spec text ≡ Some fault }
 {}
 
-/// An accepted specification has at most one class.
+/// A specification that runs has at most one class so far.
 pub fn one_class()
-    ensures { (spec : List ℕ) (tree : SpecTree) → IsChecked spec tree → length tree.classes ≤ 1 }
+    ensures { (spec text : List ℕ) (names : List (List ℕ)) (tree : SpecTree) (expression : ExprTree)
+        → IsAccepted spec text names tree expression → length tree.classes ≤ 1 }
+{}
+
+/// The table of the classes refuses before the checks, and the checks before what is not built; under `run` the expression's checks
+/// come between these.
+pub fn phases_follow()
+    ensures table { (spec : SpecTree) (fault : SpecFault) → table_fault spec ≡ Some fault → checks_fault spec ≡ Some fault }
+    ensures checks { (spec : SpecTree) (fault : SpecFault) → table_fault spec ≡ None → spec_fault spec ≡ Some fault → checks_fault spec ≡ Some fault }
+    ensures expression { (spec : SpecTree) (tree : ExprTree) (fault : SpecFault) → run_fault spec tree ≡ Some fault → main_checks_fault spec tree ≡ Some fault }
+    ensures forms { (spec : SpecTree) (tree : ExprTree) → run_fault spec tree ≡ None → main_checks_fault spec tree ≡ unbuilt_fault spec tree }
 {}

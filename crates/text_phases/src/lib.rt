@@ -1,10 +1,10 @@
-//! Which texts are accepted: lexing, grammar, what is built so far, and names, in this order.
+//! Which texts are accepted: lexing, grammar, the table of the classes, checks; and under `run` what is built so far, last.
 #![tactic(auto)]
 
 mod laws;
 mod worked;
 
-pub use laws::{one_answer, one_class, one_specification};
+pub use laws::{one_answer, one_class, one_specification, phases_follow};
 pub use worked::{
-    bound_expressions, bound_members, built_classes, built_expressions, built_operations,
+    built_classes, built_expressions, built_operations, refused_behind, refused_in_turn,
 };

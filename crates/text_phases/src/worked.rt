@@ -1,17 +1,17 @@
-// Trees that are worked out: the first form that is not built, and the first name that stands for nothing.
+// Trees that are worked out: the first form that is not built, and what is refused first.
 
 ghost use Rattle.std.specs.Prelude.{◌≡◌, true, false, [], ◌∷◌, Some, None};
 ghost use Rattle.vdm_kinds.specs.declared.access.Level.TheVariants.{Protected};
 ghost use Rattle.vdm_kinds.specs.declared.basic_type.BasicType.TheVariants.{Int};
 ghost use Rattle.vdm_kinds.specs.declared.sign.Sign.TheVariants.{Plus, Minus, Times};
-ghost use Rattle.vdm_kinds.specs.declared.spec_kind.SpecKind.TheVariants.{SyntaxFault, UnknownName};
+ghost use Rattle.vdm_kinds.specs.declared.spec_kind.SpecKind.TheVariants.{LeftOut, UnknownName, Duplicate};
 ghost use Rattle.vdm_lexer.specs.Lexemes.{fault_at};
 ghost use Rattle.abstract_syntax.specs.Types.{basic_type, bracketed_type};
 ghost use Rattle.abstract_syntax.specs.Expressions.{bracketed, prefixed, no_exprs};
 ghost use Rattle.abstract_syntax.specs.Statements.{variable, variable_of_class, element_at, field_of, assign, call, block, returns, skips, no_stmts};
 ghost use Rattle.abstract_syntax.specs.Classes.{variable_item, invariant_item, not_yet_specified, types, variables, operations};
 ghost use Rattle.text_phases.specs.Built.{unbuilt_in_expr, unbuilt_in_initial, unbuilt_in_stmt, unbuilt_in_variable, unbuilt_in_operation, unbuilt_in_spec};
-ghost use Rattle.text_phases.specs.Naming.{spec_names_fault, expr_names_fault};
+ghost use Rattle.text_phases.specs.Phases.{checks_fault, main_checks_fault};
 ghost use Rattle.text_phases.specs.Worked.{at, name, class_name, n, op, one, truth, use_of, sign_between, applied, selected, new_of, an_argument, call_of_new, in_block, set_to, call_to, gives, nat_type, a_variable, an_operation, a_class, spec_of, spec_with, spec_over};
 
 /// Expressions of the command, and initial values.
@@ -55,11 +55,12 @@ pub fn built_operations()
     ensures no_value { unbuilt_in_spec (spec_with (Some nat_type) (in_block (returns None (at 52) ∷ []) 51)) ≡ Some (at 52) }
     ensures at_its_end { unbuilt_in_spec (spec_with (Some nat_type) (in_block (call_to op 52 ∷ gives (one 65) 58 ∷ []) 51)) ≡ None }
     ensures other_type { unbuilt_in_spec (spec_with (Some (basic_type Int (at 44))) (skips (at 60))) ≡ Some (at 44) }
-    ensures private { unbuilt_in_operation (record (an_operation op None (skips (at 60)) 30) { access = record { is_static = false; level = Protected } })
+    ensures private { unbuilt_in_operation class_name (record (an_operation op None (skips (at 60)) 30) { access = record { is_static = false; level = Protected } })
         ≡ Some (at 30) }
-    ensures no_body { unbuilt_in_operation (record (an_operation op (Some (basic_type Int (at 44))) (skips (at 60)) 30) { body = not_yet_specified })
+    ensures no_body { unbuilt_in_operation class_name (record (an_operation op (Some (basic_type Int (at 44))) (skips (at 60)) 30) { body = not_yet_specified })
         ≡ Some (at 30) }
-    ensures condition { unbuilt_in_operation (record (an_operation op None (call_to op 60) 30) { pre = Some (sign_between (one 70) Minus 72 (one 74)) })
+    ensures constructor { unbuilt_in_operation class_name (an_operation class_name None (call_to op 60) 30) ≡ Some (at 30) }
+    ensures condition { unbuilt_in_operation class_name (record (an_operation op None (call_to op 60) 30) { pre = Some (sign_between (one 70) Minus 72 (one 74)) })
         ≡ Some (at 70) }
 {}
 
@@ -82,35 +83,26 @@ pub fn built_classes()
     ensures nothing { unbuilt_in_spec (record { classes = [] }) ≡ None }
 {}
 
-/// The names of members and of bodies.
-pub fn bound_members()
-    ensures whole { spec_names_fault (spec_over None (set_to n (sign_between (use_of n 87) Plus 89 (one 91)) 82)) ≡ None }
-    ensures io { spec_names_fault (record { classes = record (a_class []) { name = name 0 } ∷ [] }) ≡ Some (fault_at SyntaxFault (at 7)) }
-    ensures of_the_class { spec_names_fault (spec_of (variables (variable_item (a_variable class_name 30) ∷ []) (at 9) ∷ []))
-        ≡ Some (fault_at SyntaxFault (at 30)) }
-    ensures second_variable { spec_names_fault (spec_of (variables (variable_item (a_variable n 30) ∷ variable_item (a_variable n 50) ∷ []) (at 9) ∷ []))
-        ≡ Some (fault_at SyntaxFault (at 50)) }
-    ensures of_a_variable { spec_names_fault (spec_of (variables (variable_item (a_variable n 30) ∷ []) (at 9)
-        ∷ operations (an_operation n None (call_to op 90) 60 ∷ []) (at 50) ∷ [])) ≡ Some (fault_at SyntaxFault (at 67)) }
-    ensures body_first { spec_names_fault (spec_of (operations (an_operation op None (call_to n 50) 30
-        ∷ an_operation op None (call_to op 90) 60 ∷ []) (at 9) ∷ [])) ≡ Some (fault_at UnknownName (at 50)) }
-    ensures second_operation { spec_names_fault (spec_of (operations (an_operation op None (call_to op 50) 30
-        ∷ an_operation op None (call_to n 90) 60 ∷ []) (at 9) ∷ [])) ≡ Some (fault_at SyntaxFault (at 67)) }
-    ensures target { spec_names_fault (spec_over None (set_to op (use_of class_name 87) 82)) ≡ Some (fault_at UnknownName (at 82)) }
-    ensures in_sum { spec_names_fault (spec_over None (set_to n (sign_between (use_of n 87) Plus 89 (use_of op 91)) 82)) ≡ Some (fault_at UnknownName (at 91)) }
-    ensures variable_called { spec_names_fault (spec_over None (call_to n 82)) ≡ Some (fault_at UnknownName (at 82)) }
-    ensures result_called { spec_names_fault (spec_over (Some nat_type) (in_block (call_to op 83 ∷ gives (use_of n 95) 88 ∷ []) 82))
-        ≡ Some (fault_at UnknownName (at 83)) }
-    ensures returned { spec_names_fault (spec_over (Some nat_type) (in_block (gives (use_of op 90) 83 ∷ []) 82)) ≡ Some (fault_at UnknownName (at 90)) }
+/// What refuses a specification first: its table before its checks, and what is not built only behind an expression.
+#[tactic(auto, unfolding(crate::specs::Phases::checks_fault, spec_checks::specs::Statements::check_stmt, spec_checks::specs::Statements::check_stmts, spec_checks::specs::Statements::check_maybe, spec_checks::specs::Statements::stmt_branches, spec_checks::specs::Statements::stmt_cases, spec_checks::specs::Statements::handlers_in, class_checks::specs::Expressions::check, class_checks::specs::Expressions::listed, class_checks::specs::Expressions::pairs_in, class_checks::specs::Expressions::changed, class_checks::specs::Expressions::applied, class_checks::specs::Expressions::where_true, class_checks::specs::Expressions::bound_by, class_checks::specs::Expressions::one_bound, class_checks::specs::Expressions::defined_in, class_checks::specs::Expressions::branches, class_checks::specs::Expressions::others_in, class_checks::specs::Expressions::cases_in, class_checks::specs::Expressions::givens, class_checks::specs::Expressions::givens_each, class_checks::specs::Expressions::givens_maplets, class_checks::specs::Results::after))]
+pub fn refused_in_turn()
+    ensures whole { checks_fault (spec_over None (set_to n (sign_between (use_of n 87) Plus 89 (one 91)) 82)) ≡ None }
+    ensures io { checks_fault (record { classes = record (a_class []) { name = name 0 } ∷ [] }) ≡ Some (fault_at Duplicate (at 7)) }
+    ensures second_variable { checks_fault (spec_of (variables (variable_item (a_variable n 30) ∷ variable_item (a_variable n 50) ∷ []) (at 9) ∷ []))
+        ≡ Some (fault_at Duplicate (at 50)) }
+    ensures table_first { checks_fault (spec_of (operations (an_operation op None (call_to n 50) 30
+        ∷ an_operation op None (call_to op 90) 60 ∷ []) (at 9) ∷ [])) ≡ Some (fault_at Duplicate (at 67)) }
+    ensures target { checks_fault (spec_over None (set_to op (use_of class_name 87) 82)) ≡ Some (fault_at UnknownName (at 82)) }
+    ensures not_built { checks_fault (spec_over None (skips (at 82))) ≡ None }
 {}
 
-/// The names of the command's expression.
-pub fn bound_expressions()
-    ensures in_sum { expr_names_fault (spec_over None (call_to op 82)) (sign_between (one 1) Plus 3 (use_of n 5)) ≡ Some (fault_at UnknownName (at 5)) }
-    ensures literals { expr_names_fault (spec_over None (call_to op 82)) (sign_between (one 1) Plus 3 (one 5)) ≡ None }
-    ensures called { expr_names_fault (spec_over None (call_to op 82)) (call_of_new no_exprs) ≡ None }
-    ensures no_class { expr_names_fault (record { classes = [] }) (call_of_new no_exprs) ≡ Some (fault_at UnknownName (at 5)) }
-    ensures no_operation { expr_names_fault (spec_of []) (call_of_new no_exprs) ≡ Some (fault_at UnknownName (at 9)) }
-    ensures variable_called { expr_names_fault (spec_over None (call_to op 82)) (applied (selected (new_of no_exprs 1) n 8) no_exprs 11)
-        ≡ Some (fault_at UnknownName (at 9)) }
+/// What refuses an expression first: its checks, and then what is not built, of the specification before the expression.
+#[tactic(auto, unfolding(crate::specs::Phases::main_checks_fault, class_checks::specs::Expressions::check, class_checks::specs::Expressions::listed, class_checks::specs::Expressions::pairs_in, class_checks::specs::Expressions::changed, class_checks::specs::Expressions::applied, class_checks::specs::Expressions::where_true, class_checks::specs::Expressions::bound_by, class_checks::specs::Expressions::one_bound, class_checks::specs::Expressions::defined_in, class_checks::specs::Expressions::branches, class_checks::specs::Expressions::others_in, class_checks::specs::Expressions::cases_in, class_checks::specs::Expressions::givens, class_checks::specs::Expressions::givens_each, class_checks::specs::Expressions::givens_maplets, class_checks::specs::Results::after))]
+pub fn refused_behind()
+    ensures unknown { main_checks_fault (spec_over None (skips (at 82))) (sign_between (one 1) Plus 3 (use_of n 5)) ≡ Some (fault_at UnknownName (at 5)) }
+    ensures not_built { main_checks_fault (spec_over None (skips (at 82))) (sign_between (one 1) Minus 3 (one 5)) ≡ Some (fault_at LeftOut (at 82)) }
+    ensures expression { main_checks_fault (spec_over None (call_to op 82)) (sign_between (one 1) Minus 3 (one 5)) ≡ Some (fault_at LeftOut (at 3)) }
+    ensures sum { main_checks_fault (spec_over None (call_to op 82)) (sign_between (one 1) Plus 3 (one 5)) ≡ None }
+    ensures called { main_checks_fault (spec_over None (call_to op 82)) (call_of_new no_exprs) ≡ None }
+    ensures no_class { main_checks_fault (record { classes = [] }) (call_of_new no_exprs) ≡ Some (fault_at UnknownName (at 5)) }
 {}

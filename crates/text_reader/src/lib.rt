@@ -1,9 +1,16 @@
-//! Reads the two texts: lexing, grammar, what is built so far, and names, in this order.
+//! Reads the two texts: lexing and grammar, the table of the classes and the checks, and under `run` what is built so far, last.
 #![tactic(auto)]
 
-mod expression;
-mod left_out;
-mod specification;
+/// Crates below that are handed on.
+pub mod handed {
+    pub use spec_check;
+    pub use spec_check::handed::spec_table;
+}
 
-pub use expression::read_expression;
+mod expression;
+mod specification;
+mod texts;
+
+pub use expression::parse_expression;
 pub use specification::read_specification;
+pub use texts::read_texts;

@@ -3,10 +3,10 @@ use Rattle.std.proofs.Common.{◌≡◌, List, [], ◌∷◌, ◌++◌, Option, 
 use Rattle.vdm_kinds.specs.declared.spec_fault.SpecFault.{SpecFault}
 use Rattle.form_meaning.specs.Forms.{FormTree}
 use Rattle.class_checks.specs.Results.{Checked, gives, after}
-use Rattle.check_scopes.specs.Told.{told, told_after, told_given}
-use Rattle.check_scopes.specs.declared.setting.Setting.{Setting}
-use Rattle.check_frames.specs.Meant.{frame_check, under}
-use Rattle.check_frames.specs.declared.step.Frame.{Frame}
+use Rattle.check_named.specs.Below.check_scopes.specs.Told.{told, told_after, told_given}
+use Rattle.check_named.specs.Below.check_scopes.specs.declared.setting.Setting.{Setting}
+use Rattle.check_named.specs.Below.check_frames.specs.Meant.{frame_check, under}
+use Rattle.check_named.specs.Below.check_frames.specs.declared.step.Frame.{Frame}
 
 module _ (setting : Setting) where
   pub under_pushed : (frames : List Frame) (frame : Frame) (checked : Checked)

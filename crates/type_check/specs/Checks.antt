@@ -1,7 +1,7 @@
 -- What is still to be done, as a check; and what a turn makes of it.
 use Rattle.class_checks.specs.Results.{Checked, gives}
-use Rattle.check_scopes.specs.declared.setting.Setting.{Setting}
-use Rattle.check_frames.specs.Meant.{next_check, under}
+use Rattle.check_named.specs.Below.check_scopes.specs.declared.setting.Setting.{Setting}
+use Rattle.check_named.specs.Below.check_frames.specs.Meant.{next_check, under}
 use Rattle.type_check.specs.declared.state.State.{State}
 use Rattle.type_check.specs.declared.state.Turn.{Turn}
 use Rattle.type_check.specs.declared.state.Turn.TheVariants.{Ends, Goes}

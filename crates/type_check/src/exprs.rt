@@ -3,14 +3,14 @@
 ghost use Rattle.std.specs.Prelude.{◌≡◌, IfOk};
 ghost use Rattle.expr_tree.specs.View.{view_of};
 ghost use Rattle.class_checks.specs.Expressions.{check};
-ghost use Rattle.check_scopes.specs.Told.{first_in, told};
-ghost use Rattle.check_frames.specs.Meant.{next_check, scope_here, spec_here};
+ghost use Rattle.check_named.specs.Below.check_scopes.specs.Told.{first_in, told};
+ghost use Rattle.check_named.specs.Below.check_frames.specs.Meant.{next_check, scope_here, spec_here};
 
 use check_bound::{choice_next, inside_next, parts_next};
 use check_called::{call_next, selection_next};
-use check_frames::{Here, Next};
+use check_named::handed::check_frames::{Here, Next};
+use check_named::handed::check_scopes::Refusals;
 use check_named::{name_next, plain_next, test_next};
-use check_scopes::Refusals;
 use expr_topics::{Topic, expr_topic};
 use expr_tree::Expr;
 use vdm_kinds::OutOfMemory;

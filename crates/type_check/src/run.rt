@@ -2,12 +2,12 @@
 
 ghost use Rattle.std.specs.Prelude.{◌≡◌, IfOk};
 ghost use Rattle.class_checks.specs.Results.{gives};
-ghost use Rattle.check_scopes.specs.Told.{first_in, told};
+ghost use Rattle.check_named.specs.Below.check_scopes.specs.Told.{first_in, told};
 ghost use Rattle.type_check.specs.Checks.{state_check};
 
 use crate::state::{State, Turn};
 use crate::turn::take_turn;
-use check_scopes::{Refusals, Setting};
+use check_named::handed::check_scopes::{Refusals, Setting};
 use std::alloc::Global;
 use type_forms::Form;
 use vdm_kinds::OutOfMemory;

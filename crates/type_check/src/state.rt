@@ -1,6 +1,6 @@
 // What is still to be done.
 
-use check_frames::{Frame, Next};
+use check_named::handed::check_frames::{Frame, Next};
 use type_forms::Form;
 
 /// What is still to be done: what comes next, and what is done with its form and the forms that follow from it.

@@ -1,5 +1,5 @@
 -- What is accepted has one answer, and no refusal.
-use Rattle.std.specs.Prelude.{◌≡◌, ℕ, ◌≤◌, List, length, Option, Some, None, Result, Ok, Err}
+use Rattle.std.specs.Prelude.{◌≡◌, ℕ, ◌≤◌, List, length, Option, Some, None, Result, Ok}
 use Rattle.std.proofs.Common.{sym, ap, ◌∙◌, subst}
 use Rattle.abstract_syntax.specs.Classes.{SpecTree}
 use Rattle.abstract_syntax.specs.Expressions.{ExprTree}
@@ -10,10 +10,6 @@ use Rattle.text_phases.specs.Phases.{Read, read_spec, read_expr, refusal_in, ref
 use Rattle.vdm_cli.specs.Meant.{refusal_of, RunsBy, HasClasses, ChecksBy}
 use Rattle.vdm_cli.specs.Headline.{Call, AcceptsTexts, ChecksSpec, RunsOf}
 use Rattle.vdm_cli.proofs.AcceptedSpecs.{short}
-
--- an expression is refused behind a specification that is accepted
-pub refused_behind : (spec text : List ℕ) (first : List (List ℕ)) (tree : SpecTree) (fault : SpecFault) → read_spec spec ≡ Ok (first, tree) → read_expr first tree text ≡ Err fault → first_refusal spec text ≡ Some fault
-refused_behind spec text first tree fault e f = ap (λ (r : Read SpecTree). refusal_behind r text) e ∙ ap refusal_in f
 
 -- ---- what is accepted is not refused
 

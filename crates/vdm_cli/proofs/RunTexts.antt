@@ -1,13 +1,10 @@
 -- What the run of accepted texts, and the check of a specification, say of them.
-use Rattle.std.specs.Prelude.{◌≡◌, ℕ, ◌≤◌, Bool, List, length, Result, Err}
+use Rattle.std.specs.Prelude.{◌≡◌, ℕ, ◌≤◌, Bool, List, length}
 use Rattle.std.proofs.Common.{subst, inl, inr}
 use Rattle.std.proofs.lemmas.List.{length-map}
 use Rattle.abstract_syntax.specs.Classes.{SpecTree}
 use Rattle.abstract_syntax.specs.Expressions.{ExprTree}
 use Rattle.run_journal.specs.declared.entry.Entry.{Entry}
-use Rattle.vdm_kinds.specs.declared.halt.Halt.{Halt}
-use Rattle.vdm_kinds.specs.declared.halt.Halt.TheVariants.{Of}
-use Rattle.vdm_kinds.specs.declared.spec_fault.SpecFault.{SpecFault}
 use Rattle.text_phases.specs.Phases.{IsAccepted}
 use Rattle.report_texts.specs.Words.{Command, run}
 use Rattle.vdm_tree.specs.declared.spec.Spec.{Spec}
@@ -17,12 +14,12 @@ use Rattle.vdm_report.specs.declared.end.End.TheVariants.{Ended, Failed, ReadFau
 use Rattle.vdm_report.specs.Outside.{Outside, IsCalm}
 use Rattle.vdm_cli.specs.Meant.{WasRead, MeansTexts, MeansCommand}
 use Rattle.vdm_cli.specs.RunEnds.{RunsTo}
-use Rattle.vdm_cli.proofs.AcceptedSpecs.{one_class}
+use Rattle.text_phases.proofs.Classes.{one_class}
 
 -- an accepted specification has no class, or one
 pub few_classes : (spec_text text : List ℕ) (names : List (List ℕ)) (spec : Spec) (expression : ExprTree) → IsAccepted spec_text text names (spec_view spec) expression → length spec.classes.items ≤ 1
 few_classes spec_text text names spec expression h =
-    subst (λ n. n ≤ 1) (length-map spec.classes.items class_view) (one_class spec_text (h.first, spec_view spec) h.specification)
+    subst (λ n. n ≤ 1) (length-map spec.classes.items class_view) (one_class spec_text text names (spec_view spec) expression h)
 
 -- the run of accepted texts is what they mean
 pub means_texts : (spec text : List ℕ) (log : Bool) (names : List (List ℕ)) (tree : SpecTree) (expression : ExprTree) (journal : List Entry) (end : End) → IsAccepted spec text names tree expression → RunsTo tree expression journal end → MeansTexts (run text log) spec names journal end
@@ -41,7 +38,3 @@ means_command source spec command names journal end calm read m = (calm, read, m
 pub means_read : (source : Outside) (given spec : List ℕ) (command : Command) (names : List (List ℕ)) (journal : List Entry) (end : End) → given ≡ spec → IsCalm source → WasRead source spec → MeansTexts command given names journal end → MeansCommand source spec command names journal end
 means_read source given spec command names journal end same calm read m =
     means_command source spec command names journal end calm read (subst (λ s. MeansTexts command s names journal end) same m)
-
--- what a call refuses is handed on as it was
-pub handed_on : {T U : Type 0} (result : Result U (Halt SpecFault)) (inner outer : Halt SpecFault) (fault : SpecFault) → result ≡ Err (Of fault) → result ≡ Err outer → outer ≡ inner → (other : Result T (Halt SpecFault)) → other ≡ Err inner → other ≡ Err (Of fault)
-handed_on result inner outer fault given is same other e = cc

@@ -1,11 +1,10 @@
 // The report that a command means, before it is written.
 
-ghost use Rattle.std.specs.Prelude.{◌≡◌, ℕ, List, [], Some, Err, IfOk};
+ghost use Rattle.std.specs.Prelude.{◌≡◌, ℕ, List, [], length, Some, Err, IfOk};
 ghost use Rattle.vdm_kinds.specs.NameList.{built_in_names};
 ghost use Rattle.vdm_kinds.specs.declared.spec_fault.SpecFault.{SpecFault};
-ghost use Rattle.text_phases.specs.Phases.{IsAccepted, first_refusal, spec_refusal};
-ghost use Rattle.vdm_tree.specs.ClassView.{spec_view};
-ghost use Rattle.expr_tree.specs.View.{view_of};
+ghost use Rattle.text_phases.specs.Phases.{spec_refusal};
+ghost use Rattle.text_reader.specs.Below.spec_table.specs.Tables.{table_spec};
 ghost use Rattle.report_texts.specs.Words.{check, run, asks_log};
 ghost use Rattle.vdm_report.specs.Ends.{status_of, HasReportLine};
 ghost use Rattle.vdm_report.specs.Outside.{around};
@@ -15,12 +14,12 @@ ghost use Rattle.vdm_cli.specs.Meant.{HasClasses, MeansCommand, MeansTexts, Read
 use crate::command::Command;
 use crate::run::run;
 use std::alloc::Global;
-use text_reader::{read_expression, read_specification};
+use text_reader::handed::spec_table::ClassTable;
+use text_reader::{read_specification, read_texts};
 use vdm_kinds::{Halt, SpecFault};
 use vdm_names::Names;
 use vdm_outside::{Source, read_limited};
 use vdm_report::{End, Report};
-use vdm_tree::{Expr, Spec};
 
 /// The most bytes of a specification, 4 MiB.
 const SPEC_LIMIT: usize = 4_194_304;
@@ -84,7 +83,17 @@ fn class_count(alloc: Global, spec: &[u8], names: &mut Names) -> Result<u64, Hal
     ensures refused { (fault : SpecFault) → result ≡ Err (Halt.Of fault) → spec_refusal spec.now ≡ Some fault }
 {
     let checked = read_specification(alloc, spec, names)?;
-    Ok(checked.classes.len() as u64)
+    Ok(classes_in(checked.table()))
+}
+
+/// How many classes the text of a table has: `IO`, the first of all, stands in none.
+fn classes_in(table: &ClassTable) -> u64
+    ensures { result ≡ length (table_spec table.now).classes }
+{
+    match table.classes() {
+        [_, classes @ ..] => classes.len() as u64,
+        [] => 0,
+    }
 }
 
 /// What the two texts mean: their first refusal, or a run of the expression.
@@ -95,25 +104,9 @@ fn meant_of_texts(alloc: Global, spec: &[u8], text: &[u8], log: bool, names: &mu
     ensures log { result.log ≡ log }
     ensures line { HasReportLine result.end }
 {
-    match accepted(alloc, spec, text, names) {
-        Ok((spec, expression)) => run(alloc, &spec, &expression, log),
+    match read_texts(alloc, spec, text, names) {
+        Ok((spec, expression)) => run(alloc, &spec, expression.expr(), log),
         Err(Halt::Of(fault)) => Report::without_run(alloc, End::Refused(fault), log),
         Err(Halt::OutOfMemory) => Report::without_run(alloc, End::OutOfMemory, log),
     }
-}
-
-/// The trees of the two texts, where both are accepted, and their names.
-fn accepted(
-    alloc: Global,
-    spec: &[u8],
-    text: &[u8],
-    names: &mut Names,
-) -> Result<(Spec, Expr), Halt<SpecFault>>
-    requires { names.old ≡ built_in_names }
-    ensures trees { IfOk result (λ t. IsAccepted spec.now text.now names.new (spec_view t.0) (view_of t.1)) }
-    ensures refused { (fault : SpecFault) → result ≡ Err (Halt.Of fault) → first_refusal spec.now text.now ≡ Some fault }
-{
-    let spec = read_specification(alloc, spec, names)?;
-    let expression = read_expression(alloc, text, &spec, names)?;
-    Ok((spec, expression))
 }

@@ -4,7 +4,7 @@ use Rattle.type_tree.specs.TypeView.{type_view}
 use Rattle.class_checks.specs.Expressions.{want_faults}
 use Rattle.class_checks.specs.Results.{first_among}
 use Rattle.class_checks.specs.TypeNames.{form_of, type_faults}
-use Rattle.check_scopes.specs.Told.{first_among-++, first_in, spec_in, types_in}
+use Rattle.check_steps.specs.Below.check_scopes.specs.Told.{first_among-++, first_in, spec_in, types_in}
 use Rattle.check_binds.proofs.definitions.declared_faults.Goals as goal
 
 pub returns : goal.returns

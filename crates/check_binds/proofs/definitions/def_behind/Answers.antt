@@ -1,8 +1,8 @@
 use Rattle.expr_tree.specs.View.{pattern_view}
 use Rattle.class_checks.specs.Patterns.{pattern_faults}
-use Rattle.check_scopes.specs.Told.{first_in, spec_in, types_in}
-use Rattle.check_frames.specs.Meant.{scope_here}
-use Rattle.check_frames.specs.Steps.{refused_next}
+use Rattle.check_steps.specs.Below.check_scopes.specs.Told.{first_in, spec_in, types_in}
+use Rattle.check_steps.specs.Below.check_frames.specs.Meant.{scope_here}
+use Rattle.check_steps.specs.Below.check_frames.specs.Steps.{refused_next}
 use Rattle.check_binds.proofs.Behinds.{def_behind_pattern}
 use Rattle.check_binds.proofs.definitions.def_behind.Goals as goal
 

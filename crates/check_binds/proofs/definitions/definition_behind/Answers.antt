@@ -3,9 +3,9 @@ use Rattle.type_tree.specs.TypeView.{type_view}
 use Rattle.expr_tree.specs.View.{pattern_view}
 use Rattle.form_meaning.specs.Forms.{FormTree}
 use Rattle.class_checks.specs.Expressions.{definition_faults}
-use Rattle.check_scopes.specs.Told.{first_in, spec_in}
-use Rattle.check_frames.specs.Meant.{scope_here}
-use Rattle.check_frames.specs.Steps.{refused_next}
+use Rattle.check_steps.specs.Below.check_scopes.specs.Told.{first_in, spec_in}
+use Rattle.check_steps.specs.Below.check_frames.specs.Meant.{scope_here}
+use Rattle.check_steps.specs.Below.check_frames.specs.Steps.{refused_next}
 use Rattle.check_binds.specs.Behind.{pattern_then}
 use Rattle.check_binds.proofs.definitions.definition_behind.Goals as goal
 

@@ -3,8 +3,8 @@ use Rattle.type_tree.specs.TypeView.{type_view}
 use Rattle.expr_tree.specs.View.{pattern_view}
 use Rattle.class_checks.specs.Expressions.{optional_type_faults, optional_want_faults}
 use Rattle.class_checks.specs.Patterns.{pattern_faults}
-use Rattle.check_scopes.specs.Told.{first_in, spec_in, types_in}
-use Rattle.check_frames.specs.Meant.{scope_here}
+use Rattle.check_steps.specs.Below.check_scopes.specs.Told.{first_in, spec_in, types_in}
+use Rattle.check_steps.specs.Below.check_frames.specs.Meant.{scope_here}
 use Rattle.check_binds.proofs.Behinds.{on_both}
 use Rattle.check_binds.proofs.definitions.definition_faults.Goals as goal
 

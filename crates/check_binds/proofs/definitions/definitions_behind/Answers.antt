@@ -1,9 +1,9 @@
 use Rattle.std.proofs.Common.{List, ap, map}
 use Rattle.expr_tree.specs.View.{defined_view}
 use Rattle.expr_tree.specs.declared.parts.Defined.{Defined}
-use Rattle.check_scopes.specs.Told.{first_in, told}
-use Rattle.check_frames.specs.Meant.{boxed, definitions_behind, scope_here}
-use Rattle.check_frames.specs.Steps.{told_onward}
+use Rattle.check_steps.specs.Below.check_scopes.specs.Told.{first_in, told}
+use Rattle.check_steps.specs.Below.check_frames.specs.Meant.{boxed, definitions_behind, scope_here}
+use Rattle.check_steps.specs.Below.check_frames.specs.Steps.{told_onward}
 use Rattle.check_steps.specs.Firsts.{first_and_rest, none_left}
 use Rattle.check_binds.proofs.Behinds.{definitions_begun}
 use Rattle.check_binds.proofs.definitions.definitions_behind.Goals as goal

@@ -1,10 +1,10 @@
 use Rattle.std.proofs.Common.{List, ap, map, ◌∙◌}
 use Rattle.class_checks.specs.Scopes.{LocalForm, all_bound}
 use Rattle.shared_names.specs.Maps.{held}
-use Rattle.check_scopes.specs.Told.{scope_at}
-use Rattle.check_names.proofs.Notes.{if_ok}
-use Rattle.check_patterns.specs.declared.local_form.LocalForm.{LocalForm as Local}
-use Rattle.check_patterns.specs.Shown.{local_view}
+use Rattle.check_steps.specs.Below.check_scopes.specs.Told.{scope_at}
+use Rattle.check_steps.specs.Below.check_names.proofs.Notes.{if_ok}
+use Rattle.check_steps.specs.Below.check_patterns.specs.declared.local_form.LocalForm.{LocalForm as Local}
+use Rattle.check_steps.specs.Below.check_patterns.specs.Shown.{local_view}
 use Rattle.check_binds.proofs.definitions.inside_pattern.Goals as goal
 
 pub returns : goal.returns

@@ -1,7 +1,7 @@
 use Rattle.std.proofs.Common.{refl}
 use Rattle.expr_tree.specs.View.{pattern_view}
 use Rattle.shared_names.specs.Maps.{held}
-use Rattle.check_frames.specs.Steps.{onward}
+use Rattle.check_steps.specs.Below.check_frames.specs.Steps.{onward}
 use Rattle.check_binds.proofs.Bracketed.{pattern_first}
 use Rattle.check_binds.proofs.definitions.pattern_next.Goals as goal
 

@@ -1,8 +1,8 @@
 use Rattle.std.proofs.Common.{map, refl}
 use Rattle.expr_tree.specs.View.{bind_trees, bind_view}
 use Rattle.shared_names.specs.Maps.{held}
-use Rattle.check_patterns.specs.Shown.{local_view, patterns_of}
-use Rattle.check_frames.specs.Steps.{onward}
+use Rattle.check_steps.specs.Below.check_patterns.specs.Shown.{local_view, patterns_of}
+use Rattle.check_steps.specs.Below.check_frames.specs.Steps.{onward}
 use Rattle.check_binds.proofs.Bracketed.{bound_first}
 use Rattle.check_binds.proofs.sets.bound_next.Goals as goal
 

@@ -1,9 +1,9 @@
 use Rattle.std.proofs.Common.{refl}
 use Rattle.class_checks.specs.Expressions.{set_faults}
-use Rattle.check_scopes.specs.Told.{first_in, spec_in}
-use Rattle.check_patterns.specs.Shown.{patterns_of}
-use Rattle.check_frames.specs.Meant.{scope_here}
-use Rattle.check_frames.specs.Steps.{refused_next}
+use Rattle.check_steps.specs.Below.check_scopes.specs.Told.{first_in, spec_in}
+use Rattle.check_steps.specs.Below.check_patterns.specs.Shown.{patterns_of}
+use Rattle.check_steps.specs.Below.check_frames.specs.Meant.{scope_here}
+use Rattle.check_steps.specs.Below.check_frames.specs.Steps.{refused_next}
 use Rattle.check_binds.proofs.sets.iota_behind.Goals as goal
 
 pub returns : goal.returns

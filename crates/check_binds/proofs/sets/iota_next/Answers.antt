@@ -3,11 +3,11 @@ use Rattle.form_meaning.specs.Forms.{FormTree}
 use Rattle.class_checks.specs.Patterns.{binds_each}
 use Rattle.class_checks.specs.Scopes.{all_bound}
 use Rattle.shared_names.specs.Maps.{held}
-use Rattle.check_scopes.specs.Told.{spec_in, types_in}
-use Rattle.check_patterns.specs.declared.local_form.LocalForm.{LocalForm as Local}
-use Rattle.check_patterns.specs.Shown.{local_view, patterns_of}
-use Rattle.check_frames.specs.Meant.{boxed}
-use Rattle.check_frames.specs.Steps.{onward}
+use Rattle.check_steps.specs.Below.check_scopes.specs.Told.{spec_in, types_in}
+use Rattle.check_steps.specs.Below.check_patterns.specs.declared.local_form.LocalForm.{LocalForm as Local}
+use Rattle.check_steps.specs.Below.check_patterns.specs.Shown.{local_view, patterns_of}
+use Rattle.check_steps.specs.Below.check_frames.specs.Meant.{boxed}
+use Rattle.check_steps.specs.Below.check_frames.specs.Steps.{onward}
 use Rattle.check_binds.proofs.Bracketed.{iota_first}
 use Rattle.check_binds.proofs.sets.iota_next.Goals as goal
 

@@ -4,8 +4,8 @@ use Rattle.class_checks.specs.Expressions.{want_faults}
 use Rattle.class_checks.specs.Operators.{any_set}
 use Rattle.class_checks.specs.Patterns.{patterns_faults}
 use Rattle.class_checks.specs.Results.{first_among, refused_if}
-use Rattle.check_scopes.specs.Told.{first_in, spec_in, types_in}
-use Rattle.check_patterns.specs.Shown.{patterns_of}
+use Rattle.check_steps.specs.Below.check_scopes.specs.Told.{first_in, spec_in, types_in}
+use Rattle.check_steps.specs.Below.check_patterns.specs.Shown.{patterns_of}
 use Rattle.check_binds.proofs.Behinds.{on_both}
 use Rattle.check_binds.proofs.sets.set_faults.Goals as goal
 

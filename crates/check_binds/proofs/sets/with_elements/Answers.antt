@@ -1,9 +1,9 @@
 use Rattle.std.proofs.Common.{ap, map, ◌++◌, ◌∙◌}
 use Rattle.form_meaning.specs.Forms.{FormTree}
 use Rattle.class_checks.specs.Patterns.{binds_each}
-use Rattle.check_scopes.specs.Told.{spec_in, types_in}
-use Rattle.check_names.proofs.Notes.{if_ok}
-use Rattle.check_patterns.specs.Shown.{local_view, patterns_of}
+use Rattle.check_steps.specs.Below.check_scopes.specs.Told.{spec_in, types_in}
+use Rattle.check_steps.specs.Below.check_names.proofs.Notes.{if_ok}
+use Rattle.check_steps.specs.Below.check_patterns.specs.Shown.{local_view, patterns_of}
 use Rattle.check_binds.proofs.sets.with_elements.Goals as goal
 
 pub returns : goal.returns

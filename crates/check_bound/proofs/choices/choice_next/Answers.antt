@@ -1,7 +1,7 @@
 use Rattle.std.proofs.Common.{ap, ◌∙◌}
 use Rattle.expr_tree.specs.View.{view_of}
 use Rattle.class_checks.specs.Expressions.{check}
-use Rattle.check_scopes.specs.Told.{spec_in}
+use Rattle.check_frames.specs.Below.check_scopes.specs.Told.{spec_in}
 use Rattle.check_frames.specs.Meant.{scope_here}
 use Rattle.check_frames.specs.Steps.{onward}
 use Rattle.check_bound.proofs.Views.{view-Cases, view-DefIn, view-IfElse, view-Iota, view-LetIn}

@@ -3,10 +3,10 @@ use Rattle.abstract_syntax.specs.Expressions.{BindTree, bind_in, expr_place, iot
 use Rattle.expr_tree.specs.View.{pattern_trees, pattern_views, view_of}
 use Rattle.expr_tree.specs.declared.pattern.Bind.{Bind}
 use Rattle.class_checks.specs.Expressions.{check}
-use Rattle.check_scopes.specs.Told.{spec_in}
+use Rattle.check_frames.specs.Below.check_scopes.specs.Told.{spec_in}
 use Rattle.check_frames.specs.Meant.{boxed, scope_here}
 use Rattle.check_frames.specs.Steps.{onward}
-use Rattle.check_steps.specs.Viewed.{bind_parts}
+use Rattle.check_series.specs.Below.check_steps.specs.Viewed.{bind_parts}
 use Rattle.check_bound.proofs.Begun.{iota_begun}
 use Rattle.check_bound.proofs.choices.iota_next.Goals as goal
 

@@ -2,7 +2,7 @@ use Rattle.std.proofs.Common.{List, ap, map, sym, ◌∙◌}
 use Rattle.expr_tree.specs.View.{defined_trees, defined_view}
 use Rattle.expr_tree.specs.declared.parts.Defined.{Defined}
 use Rattle.class_checks.specs.Expressions.{defined_in}
-use Rattle.check_scopes.specs.Told.{spec_in}
+use Rattle.check_frames.specs.Below.check_scopes.specs.Told.{spec_in}
 use Rattle.check_frames.specs.Meant.{boxed, let_body, scope_here}
 use Rattle.check_frames.specs.Steps.{onward}
 use Rattle.check_bound.proofs.Begun.{let_begun}

@@ -4,7 +4,7 @@ use Rattle.expr_tree.specs.declared.parts.Case.{Case}
 use Rattle.form_meaning.specs.Forms.{FormTree, no_form}
 use Rattle.class_checks.specs.Expressions.{check}
 use Rattle.class_checks.specs.Results.{after}
-use Rattle.check_scopes.specs.Told.{spec_in}
+use Rattle.check_frames.specs.Below.check_scopes.specs.Told.{spec_in}
 use Rattle.check_frames.specs.Meant.{boxed, cases_check, scope_here}
 use Rattle.check_frames.specs.Steps.{onward}
 use Rattle.check_bound.proofs.Begun.{cases_begun}

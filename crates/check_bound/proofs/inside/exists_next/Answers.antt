@@ -1,7 +1,7 @@
 use Rattle.std.proofs.Common.{None, [], ap, map, sym, ◌∙◌}
 use Rattle.expr_tree.specs.View.{bind_trees, bind_view}
 use Rattle.class_checks.specs.Expressions.{bound_by}
-use Rattle.check_scopes.specs.Told.{spec_in}
+use Rattle.check_frames.specs.Below.check_scopes.specs.Told.{spec_in}
 use Rattle.check_frames.specs.Meant.{inside_of, scope_here}
 use Rattle.check_frames.specs.Steps.{onward}
 use Rattle.check_frames.specs.declared.inside.Body.{Body}

@@ -2,11 +2,11 @@ use Rattle.std.proofs.Common.{None, [], ap, sym, ◌∙◌}
 use Rattle.abstract_syntax.specs.Expressions.{BindTree, bind_in, exists_one, no_binds}
 use Rattle.expr_tree.specs.View.{pattern_trees, pattern_views, view_of}
 use Rattle.class_checks.specs.Expressions.{check}
-use Rattle.check_scopes.specs.Told.{spec_in}
+use Rattle.check_frames.specs.Below.check_scopes.specs.Told.{spec_in}
 use Rattle.check_frames.specs.Meant.{bind_check, boxed, scope_here}
 use Rattle.check_frames.specs.Steps.{onward}
 use Rattle.check_frames.specs.declared.inside.Body.{Body}
-use Rattle.check_steps.specs.Viewed.{bind_parts}
+use Rattle.check_series.specs.Below.check_steps.specs.Viewed.{bind_parts}
 use Rattle.check_bound.proofs.Begun.{exists_one_begun}
 use Rattle.check_bound.proofs.inside.exists_one_next.Goals as goal
 

@@ -2,10 +2,10 @@ use Rattle.std.proofs.Common.{ap, sym, ◌∙◌}
 use Rattle.abstract_syntax.specs.Expressions.{BindTree, MaybeExpr, bind_in, let_be}
 use Rattle.expr_tree.specs.View.{bind_view, pattern_trees, pattern_views, view_of}
 use Rattle.class_checks.specs.Expressions.{check}
-use Rattle.check_scopes.specs.Told.{spec_in}
+use Rattle.check_frames.specs.Below.check_scopes.specs.Told.{spec_in}
 use Rattle.check_frames.specs.Meant.{boxed, maybe_boxed, scope_here}
 use Rattle.check_frames.specs.Steps.{onward}
-use Rattle.check_steps.specs.Viewed.{bind_parts}
+use Rattle.check_series.specs.Below.check_steps.specs.Viewed.{bind_parts}
 use Rattle.check_bound.proofs.Begun.{let_be_begun, maybe_same}
 use Rattle.check_bound.proofs.inside.let_be_next.Goals as goal
 

@@ -2,7 +2,7 @@ use Rattle.std.proofs.Common.{ap, sym, ◌∙◌}
 use Rattle.abstract_syntax.specs.Expressions.{MaybeExpr, sequence_comprehension}
 use Rattle.expr_tree.specs.View.{pattern_view}
 use Rattle.class_checks.specs.Expressions.{check}
-use Rattle.check_scopes.specs.Told.{spec_in}
+use Rattle.check_frames.specs.Below.check_scopes.specs.Told.{spec_in}
 use Rattle.check_frames.specs.Meant.{boxed, scope_here}
 use Rattle.check_frames.specs.Steps.{onward}
 use Rattle.check_bound.proofs.Begun.{maybe_same, sequence_of_begun}

@@ -2,7 +2,7 @@ use Rattle.std.proofs.Common.{ap, map, sym, ◌∙◌}
 use Rattle.abstract_syntax.specs.Expressions.{MaybeExpr, set_comprehension}
 use Rattle.expr_tree.specs.View.{bind_trees, bind_view}
 use Rattle.class_checks.specs.Expressions.{check}
-use Rattle.check_scopes.specs.Told.{spec_in}
+use Rattle.check_frames.specs.Below.check_scopes.specs.Told.{spec_in}
 use Rattle.check_frames.specs.Meant.{boxed, scope_here}
 use Rattle.check_frames.specs.Steps.{onward}
 use Rattle.check_bound.proofs.Begun.{maybe_same, set_of_begun}

@@ -1,6 +1,6 @@
 use Rattle.std.proofs.Common.{map, sym}
 use Rattle.abstract_syntax.specs.Expressions.{no_binds}
-use Rattle.check_patterns.specs.Shown.{local_view, patterns_of}
+use Rattle.check_frames.specs.Below.check_patterns.specs.Shown.{local_view, patterns_of}
 use Rattle.check_frames.specs.Meant.{bind_check, boxed, scope_here}
 use Rattle.check_frames.specs.Steps.{onward}
 use Rattle.check_bound.proofs.inside.within_bind.Goals as goal

@@ -4,7 +4,7 @@ use Rattle.std.proofs.lemmas.Int.{to_z-of_z}
 use Rattle.abstract_syntax.specs.Expressions.{select_part}
 use Rattle.expr_tree.specs.View.{view_of}
 use Rattle.class_checks.specs.Expressions.{check}
-use Rattle.check_scopes.specs.Told.{spec_in}
+use Rattle.check_frames.specs.Below.check_scopes.specs.Told.{spec_in}
 use Rattle.check_bound.proofs.OfParts.{basic_parts, infix_parts, map_parts, modified_parts, prefix_parts, range_parts, same_base_class_parts, same_class_parts, select_parts, sequence_parts, set_parts, subsequence_parts, token_parts, tuple_parts}
 use Rattle.check_bound.proofs.Views.{view-Infix, view-IsOfBasic, view-MakeToken, view-MakeTuple, view-MapEnumeration, view-ModifyRecord, view-Prefix, view-SameBaseClass, view-SameClass, view-SelectPart, view-SequenceEnumeration, view-SetEnumeration, view-SetRange, view-Subsequence}
 use Rattle.check_bound.proofs.parts.parts_of.Goals as goal

@@ -2,9 +2,9 @@ use Rattle.std.proofs.Common.{[], length, ◌∙◌}
 use Rattle.expr_tree.specs.View.{expr_trees, views_of}
 use Rattle.class_checks.specs.Expressions.{check, listed}
 use Rattle.class_checks.specs.Shapes.{ShapeTree}
-use Rattle.check_scopes.specs.Told.{first_in, spec_in}
-use Rattle.check_frames.specs.Meant.{boxed, scope_here}
-use Rattle.check_frames.specs.Steps.{told_onward}
+use Rattle.check_steps.specs.Below.check_scopes.specs.Told.{first_in, spec_in}
+use Rattle.check_steps.specs.Below.check_frames.specs.Meant.{boxed, scope_here}
+use Rattle.check_steps.specs.Below.check_frames.specs.Steps.{told_onward}
 use Rattle.check_called.proofs.Called.{apply_begun}
 use Rattle.check_called.proofs.applied.applied_next.Goals as goal
 

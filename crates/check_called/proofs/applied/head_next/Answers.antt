@@ -4,13 +4,13 @@ use Rattle.abstract_syntax.specs.Expressions.{expr_place}
 use Rattle.class_checks.specs.Callees.{named_callee, qualified_callee}
 use Rattle.class_checks.specs.Expressions.{check}
 use Rattle.class_checks.specs.Results.{after}
-use Rattle.check_scopes.specs.Told.{first_in, spec_in}
-use Rattle.check_calls.specs.declared.callee.Call.{Call}
-use Rattle.check_frames.specs.Meant.{boxed, called_with, scope_here, target_check, target_of_class_check}
-use Rattle.check_frames.specs.Steps.{told_next, told_onward}
-use Rattle.check_frames.specs.declared.rest.Rest.TheVariants.{Items}
-use Rattle.check_frames.specs.declared.way.Way.{Way}
-use Rattle.check_frames.specs.declared.way.Way.TheVariants.{Applied}
+use Rattle.check_steps.specs.Below.check_scopes.specs.Told.{first_in, spec_in}
+use Rattle.check_steps.specs.Below.check_calls.specs.declared.callee.Call.{Call}
+use Rattle.check_steps.specs.Below.check_frames.specs.Meant.{boxed, called_with, scope_here, target_check, target_of_class_check}
+use Rattle.check_steps.specs.Below.check_frames.specs.Steps.{told_next, told_onward}
+use Rattle.check_steps.specs.Below.check_frames.specs.declared.rest.Rest.TheVariants.{Items}
+use Rattle.check_steps.specs.Below.check_frames.specs.declared.way.Way.{Way}
+use Rattle.check_steps.specs.Below.check_frames.specs.declared.way.Way.TheVariants.{Applied}
 use Rattle.check_called.proofs.Called.{given_arguments, other_applied, select_applied, select_of_class_applied}
 use Rattle.check_called.specs.Heads.{head_applied}
 use Rattle.check_called.specs.declared.head.Head.{Head}

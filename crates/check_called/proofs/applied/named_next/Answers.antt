@@ -1,8 +1,8 @@
 use Rattle.std.proofs.Common.{length}
 use Rattle.class_checks.specs.Callees.{named_callee}
-use Rattle.check_scopes.specs.Told.{first_in, spec_in}
-use Rattle.check_frames.specs.Meant.{scope_here}
-use Rattle.check_frames.specs.declared.rest.Rest.TheVariants.{Items}
+use Rattle.check_steps.specs.Below.check_scopes.specs.Told.{first_in, spec_in}
+use Rattle.check_steps.specs.Below.check_frames.specs.Meant.{scope_here}
+use Rattle.check_steps.specs.Below.check_frames.specs.declared.rest.Rest.TheVariants.{Items}
 use Rattle.check_steps.specs.Calls.{called_on}
 use Rattle.check_called.proofs.applied.named_next.Goals as goal
 

@@ -1,10 +1,10 @@
 use Rattle.std.proofs.Common.{length}
 use Rattle.class_checks.specs.Callees.{created_callee}
 use Rattle.shared_names.specs.Maps.{held}
-use Rattle.check_scopes.specs.Told.{first_in, spec_in}
-use Rattle.check_frames.specs.Meant.{scope_here}
-use Rattle.check_frames.specs.Steps.{told_onward}
-use Rattle.check_frames.specs.declared.rest.Rest.TheVariants.{Items}
+use Rattle.check_steps.specs.Below.check_scopes.specs.Told.{first_in, spec_in}
+use Rattle.check_steps.specs.Below.check_frames.specs.Meant.{scope_here}
+use Rattle.check_steps.specs.Below.check_frames.specs.Steps.{told_onward}
+use Rattle.check_steps.specs.Below.check_frames.specs.declared.rest.Rest.TheVariants.{Items}
 use Rattle.check_steps.specs.Calls.{called_on}
 use Rattle.check_called.proofs.Called.{create_begun}
 use Rattle.check_called.proofs.calls.created_next.Goals as goal

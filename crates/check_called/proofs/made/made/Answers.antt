@@ -1,7 +1,7 @@
 use Rattle.std.proofs.Common.{ap, option_map, sym, ◌∙◌}
 use Rattle.record_names.specs.Names.{record_type_of_names}
-use Rattle.check_scopes.specs.Told.{spec_in}
-use Rattle.check_names.proofs.Notes.{if_ok}
+use Rattle.check_steps.specs.Below.check_scopes.specs.Told.{spec_in}
+use Rattle.check_steps.specs.Below.check_names.proofs.Notes.{if_ok}
 use Rattle.check_called.specs.Offers.{offer_of}
 use Rattle.check_called.proofs.made.made.Goals as goal
 

@@ -1,7 +1,7 @@
 use Rattle.std.proofs.Common.{ap, ◌∙◌}
 use Rattle.class_checks.specs.TypeNames.{fields_of}
 use Rattle.type_forms.specs.Tree.{form_trees}
-use Rattle.check_scopes.specs.Told.{spec_in}
+use Rattle.check_steps.specs.Below.check_scopes.specs.Told.{spec_in}
 use Rattle.check_called.proofs.Making.{wanted}
 use Rattle.check_called.proofs.made.of_record.Goals as goal
 

@@ -1,7 +1,7 @@
 use Rattle.class_checks.specs.Expressions.{made_form, made_wants}
 use Rattle.class_checks.specs.TypeNames.{record_faults, record_type}
-use Rattle.check_scopes.specs.Told.{first_in, spec_in, types_in}
-use Rattle.check_names.proofs.Notes.{if_ok}
+use Rattle.check_steps.specs.Below.check_scopes.specs.Told.{first_in, spec_in, types_in}
+use Rattle.check_steps.specs.Below.check_names.proofs.Notes.{if_ok}
 use Rattle.check_called.proofs.Making.{by_record, known_callee, spoilt_callee}
 use Rattle.check_called.proofs.made.record_callee.Goals as goal
 

@@ -1,5 +1,5 @@
-use Rattle.check_frames.specs.Meant.{boxed, scope_here}
-use Rattle.check_frames.specs.Steps.{onward}
+use Rattle.check_steps.specs.Below.check_frames.specs.Meant.{boxed, scope_here}
+use Rattle.check_steps.specs.Below.check_frames.specs.Steps.{onward}
 use Rattle.check_called.proofs.Begun.{select_begun}
 use Rattle.check_called.proofs.selections.read_next.Goals as goal
 

@@ -2,9 +2,9 @@ use Rattle.std.proofs.Common.{ap, sym}
 use Rattle.vdm_kinds.specs.declared.place.Place.{Place}
 use Rattle.class_checks.specs.Expressions.{check}
 use Rattle.class_checks.specs.Results.{after}
-use Rattle.check_scopes.specs.Told.{spec_in}
-use Rattle.check_frames.specs.Meant.{boxed, scope_here, target_of_class_check}
-use Rattle.check_frames.specs.Steps.{onward}
+use Rattle.check_steps.specs.Below.check_scopes.specs.Told.{spec_in}
+use Rattle.check_steps.specs.Below.check_frames.specs.Meant.{boxed, scope_here, target_of_class_check}
+use Rattle.check_steps.specs.Below.check_frames.specs.Steps.{onward}
 use Rattle.check_called.proofs.selections.selected_of_class_next.Goals as goal
 
 pub returns : goal.returns

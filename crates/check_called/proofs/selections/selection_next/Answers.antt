@@ -3,9 +3,9 @@ use Rattle.vdm_kinds.specs.declared.name_at.NameAt.{NameAt}
 use Rattle.abstract_syntax.specs.Expressions.{select, select_of_class}
 use Rattle.expr_tree.specs.View.{view_of}
 use Rattle.class_checks.specs.Expressions.{check}
-use Rattle.check_scopes.specs.Told.{spec_in}
-use Rattle.check_frames.specs.Meant.{scope_here}
-use Rattle.check_frames.specs.Steps.{onward}
+use Rattle.check_steps.specs.Below.check_scopes.specs.Told.{spec_in}
+use Rattle.check_steps.specs.Below.check_frames.specs.Meant.{scope_here}
+use Rattle.check_steps.specs.Below.check_frames.specs.Steps.{onward}
 use Rattle.check_called.proofs.Views.{view-Select, view-SelectOfClass}
 use Rattle.check_called.proofs.selections.selection_next.Goals as goal
 

@@ -1,5 +1,5 @@
 use Rattle.class_checks.specs.Members.{unseen}
-use Rattle.check_scopes.specs.Told.{first_in, scope_at, spec_in}
+use Rattle.check_fields.specs.Below.check_scopes.specs.Told.{first_in, scope_at, spec_in}
 use Rattle.check_names.proofs.Notes.{if_ok}
 use Rattle.check_calls.proofs.called.called_function.Goals as goal
 

@@ -1,5 +1,5 @@
 use Rattle.std.proofs.Common.{ap, ◌∙◌}
-use Rattle.check_scopes.specs.Told.{scope_at, spec_in}
+use Rattle.check_fields.specs.Below.check_scopes.specs.Told.{scope_at, spec_in}
 use Rattle.check_calls.specs.Calling.{called}
 use Rattle.check_calls.proofs.Behind.{called_in}
 use Rattle.check_names.proofs.Notes.{if_ok}

@@ -3,8 +3,8 @@ use Rattle.form_meaning.specs.Forms.{FormTree}
 use Rattle.class_checks.specs.Callees.{value_callee}
 use Rattle.class_checks.specs.Members.{read_member}
 use Rattle.class_checks.specs.Results.{form_unless}
-use Rattle.spec_table.specs.Members.{item_view}
-use Rattle.check_scopes.specs.Told.{Told, first_in, scope_at, spec_in}
+use Rattle.check_fields.specs.Below.spec_table.specs.Members.{item_view}
+use Rattle.check_fields.specs.Below.check_scopes.specs.Told.{Told, first_in, scope_at, spec_in}
 use Rattle.check_calls.specs.Calling.{called}
 use Rattle.check_calls.proofs.Callees.{member_known}
 use Rattle.check_names.proofs.Notes.{if_ok}

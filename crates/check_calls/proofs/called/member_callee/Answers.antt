@@ -1,6 +1,6 @@
 use Rattle.std.proofs.Common.{◌≡◌, true, rules, ap, ◌∙◌}
-use Rattle.check_scopes.specs.Told.{first_in, scope_at, spec_in}
-use Rattle.spec_table.specs.Members.{item_view}
+use Rattle.check_fields.specs.Below.check_scopes.specs.Told.{first_in, scope_at, spec_in}
+use Rattle.check_fields.specs.Below.spec_table.specs.Members.{item_view}
 use Rattle.check_names.proofs.Notes.{if_ok}
 use Rattle.check_calls.specs.Calling.{called}
 use Rattle.check_calls.proofs.Behind.{by_look_up, is_looked_up}

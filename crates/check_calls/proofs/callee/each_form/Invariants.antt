@@ -1,7 +1,7 @@
 use Rattle.std.proofs.Common.{◌≡◌, map, take}
 use Rattle.class_checks.specs.TypeNames.{form_of}
 use Rattle.class_meaning.specs.Classes.{name_of_class}
-use Rattle.check_scopes.specs.Told.{spec_in}
+use Rattle.check_fields.specs.Below.check_scopes.specs.Told.{spec_in}
 use Rattle.type_tree.specs.TypeView.{type_view}
 use Rattle.type_tree.specs.declared.type_expr.TypeExpr.{TypeExpr}
 use Rattle.check_calls.proofs.callee.each_form.Given as goal

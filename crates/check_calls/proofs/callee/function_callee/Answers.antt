@@ -1,6 +1,6 @@
 use Rattle.std.proofs.Common.{List, map, ap, ◌∙◌}
 use Rattle.class_checks.specs.Callees.{parameter_forms}
-use Rattle.check_scopes.specs.Told.{spec_in}
+use Rattle.check_fields.specs.Below.check_scopes.specs.Told.{spec_in}
 use Rattle.type_tree.specs.TypeView.{type_view}
 use Rattle.type_tree.specs.declared.type_expr.TypeExpr.{TypeExpr}
 use Rattle.check_calls.proofs.Callees.{calls_of}

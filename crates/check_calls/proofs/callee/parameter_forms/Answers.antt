@@ -1,5 +1,5 @@
 use Rattle.std.proofs.Common.{ap, ◌∙◌}
-use Rattle.check_scopes.specs.Told.{spec_in}
+use Rattle.check_fields.specs.Below.check_scopes.specs.Told.{spec_in}
 use Rattle.type_forms.specs.Tree.{form_trees}
 use Rattle.check_calls.proofs.Callees.{forms_listed}
 use Rattle.check_names.proofs.Notes.{if_ok}

@@ -4,7 +4,7 @@ use Rattle.vdm_kinds.specs.declared.spec_kind.SpecKind.TheVariants.{WrongArity}
 use Rattle.class_checks.specs.Callees.{has_constructor}
 use Rattle.class_checks.specs.Members.{may_not_create}
 use Rattle.class_checks.specs.Results.{refused_if}
-use Rattle.check_scopes.specs.Told.{first_in, scope_at, spec_in}
+use Rattle.check_fields.specs.Below.check_scopes.specs.Told.{first_in, scope_at, spec_in}
 use Rattle.vdm_tree.specs.ClassView.{class_view}
 use Rattle.check_names.specs.Noting.{note}
 use Rattle.check_names.proofs.Notes.{note_both}

@@ -1,7 +1,7 @@
 use Rattle.std.proofs.Common.{ap}
 use Rattle.vdm_kinds.specs.declared.spec_kind.SpecKind.TheVariants.{UnknownName}
 use Rattle.class_checks.specs.Members.{may_not_create}
-use Rattle.check_scopes.specs.Told.{first_in, scope_at, spec_in}
+use Rattle.check_fields.specs.Below.check_scopes.specs.Told.{first_in, scope_at, spec_in}
 use Rattle.check_names.specs.Noting.{Note}
 use Rattle.check_calls.proofs.Callees.{later_calls}
 use Rattle.check_calls.proofs.created.unknown_class.Goals as goal

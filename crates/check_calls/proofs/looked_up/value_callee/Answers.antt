@@ -1,4 +1,4 @@
-use Rattle.check_scopes.specs.Told.{spec_in}
+use Rattle.check_fields.specs.Below.check_scopes.specs.Told.{spec_in}
 use Rattle.check_calls.proofs.Callees.{value_calls}
 use Rattle.check_calls.proofs.looked_up.value_callee.Goals as goal
 

@@ -5,7 +5,7 @@ use Rattle.class_checks.specs.Callees.{selected, value_callee}
 use Rattle.class_checks.specs.Members.{other_faults}
 use Rattle.class_checks.specs.TypeNames.{form_of}
 use Rattle.class_meaning.specs.Classes.{name_of_class}
-use Rattle.check_scopes.specs.Told.{scope_at, spec_in}
+use Rattle.check_fields.specs.Below.check_scopes.specs.Told.{scope_at, spec_in}
 use Rattle.type_tree.specs.TypeView.{type_view}
 use Rattle.check_names.specs.Noting.{Note, noted_as}
 use Rattle.check_calls.specs.Selecting.{shown_of}

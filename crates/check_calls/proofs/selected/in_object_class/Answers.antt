@@ -1,6 +1,6 @@
 use Rattle.std.proofs.Common.{ℕ, Option, ap, sym, ◌∙◌}
 use Rattle.class_checks.specs.Callees.{in_object_class}
-use Rattle.check_scopes.specs.Told.{scope_at, spec_in}
+use Rattle.check_fields.specs.Below.check_scopes.specs.Told.{scope_at, spec_in}
 use Rattle.check_names.proofs.Notes.{if_ok}
 use Rattle.check_calls.specs.Selecting.{shown_of, use_view}
 use Rattle.check_calls.proofs.selected.in_object_class.Goals as goal

@@ -1,7 +1,7 @@
 use Rattle.std.proofs.Common.{Option, ap, sym, ◌∙◌}
 use Rattle.form_meaning.specs.Forms.{FormTree}
 use Rattle.class_checks.specs.Callees.{used_field}
-use Rattle.check_scopes.specs.Told.{scope_at, spec_in}
+use Rattle.check_fields.specs.Below.check_scopes.specs.Told.{scope_at, spec_in}
 use Rattle.check_calls.specs.Selecting.{shown_of, use_view}
 use Rattle.check_names.proofs.Notes.{if_ok}
 use Rattle.check_calls.proofs.selected.of_record.Goals as goal

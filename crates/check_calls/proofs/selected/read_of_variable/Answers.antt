@@ -2,7 +2,7 @@ use Rattle.std.proofs.Common.{List, None, false, ap, ◌∙◌}
 use Rattle.vdm_kinds.specs.declared.spec_fault.SpecFault.{SpecFault}
 use Rattle.form_meaning.specs.Forms.{no_forms}
 use Rattle.class_checks.specs.Members.{other_faults}
-use Rattle.check_scopes.specs.Told.{scope_at, spec_in}
+use Rattle.check_fields.specs.Below.check_scopes.specs.Told.{scope_at, spec_in}
 use Rattle.check_names.specs.Noting.{noted_as}
 use Rattle.check_calls.proofs.Callees.{calls_of}
 use Rattle.check_calls.proofs.Selections.{may, may_not}

@@ -1,5 +1,5 @@
 use Rattle.std.proofs.Common.{arith}
-use Rattle.check_scopes.specs.Told.{scope_at, spec_in}
+use Rattle.check_fields.specs.Below.check_scopes.specs.Told.{scope_at, spec_in}
 use Rattle.check_calls.specs.Selecting.{all_shown, use_view}
 use Rattle.check_calls.proofs.Selections.{among_end, among_step}
 use Rattle.check_calls.proofs.selection.among.Goals as goal

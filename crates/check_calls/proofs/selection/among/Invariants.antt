@@ -1,7 +1,7 @@
 use Rattle.std.proofs.Common.{◌≡◌, drop}
 use Rattle.class_checks.specs.Scopes.{Locals}
 use Rattle.check_calls.specs.Selecting.{all_shown, among_shown, nothing_shown, use_view}
-use Rattle.check_scopes.specs.Told.{scope_at, spec_in}
+use Rattle.check_fields.specs.Below.check_scopes.specs.Told.{scope_at, spec_in}
 use Rattle.type_forms.specs.Tree.{alt_trees}
 use Rattle.check_calls.proofs.selection.among.Given as goal
 

@@ -1,6 +1,6 @@
 use Rattle.std.proofs.Common.{None, [], ◌∙◌}
 use Rattle.class_checks.specs.Callees.{Selection, among_alternatives}
-use Rattle.check_scopes.specs.Told.{scope_at, spec_in}
+use Rattle.check_fields.specs.Below.check_scopes.specs.Told.{scope_at, spec_in}
 use Rattle.type_forms.specs.Tree.{alt_trees}
 use Rattle.check_calls.specs.Selecting.{use_view}
 use Rattle.check_calls.proofs.Selections.{all_among}

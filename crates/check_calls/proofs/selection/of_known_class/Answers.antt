@@ -3,7 +3,7 @@ use Rattle.vdm_kinds.specs.declared.spec_kind.SpecKind.TheVariants.{NoCommonValu
 use Rattle.class_checks.specs.Callees.{class_callee, in_object_class, only_selected}
 use Rattle.class_checks.specs.Results.{first_among, refused_if}
 use Rattle.class_checks.specs.TypeNames.{meets}
-use Rattle.check_scopes.specs.Told.{first_in, scope_at, spec_in}
+use Rattle.check_fields.specs.Below.check_scopes.specs.Told.{first_in, scope_at, spec_in}
 use Rattle.form_meaning.specs.Forms.{object_alt, only}
 use Rattle.check_calls.specs.Calling.{called}
 use Rattle.check_calls.specs.Selecting.{shown_of, use_view}

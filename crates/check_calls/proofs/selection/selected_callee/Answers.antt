@@ -1,6 +1,6 @@
 use Rattle.std.proofs.Common.{[], false, refl, ap, ◌∙◌}
 use Rattle.form_meaning.specs.Forms.{any_form, no_forms}
-use Rattle.check_scopes.specs.Told.{first_in, scope_at, spec_in}
+use Rattle.check_fields.specs.Below.check_scopes.specs.Told.{first_in, scope_at, spec_in}
 use Rattle.type_forms.specs.Tree.{tree_of}
 use Rattle.check_calls.specs.Selecting.{use_view}
 use Rattle.check_calls.proofs.Callees.{calls_of}

@@ -4,9 +4,9 @@ use Rattle.class_checks.specs.Members.{may_not_count, uncounted}
 use Rattle.class_checks.specs.Operators.{number}
 use Rattle.class_checks.specs.Results.{first_among, gives, refusing}
 use Rattle.shared_names.specs.Maps.{held}
-use Rattle.check_scopes.specs.Told.{first_in, spec_in, told, told_refusing}
-use Rattle.check_names.proofs.Notes.{if_ok}
-use Rattle.check_frames.specs.Meant.{scope_here}
+use Rattle.check_steps.specs.Below.check_scopes.specs.Told.{first_in, spec_in, told, told_refusing}
+use Rattle.check_steps.specs.Below.check_names.proofs.Notes.{if_ok}
+use Rattle.check_steps.specs.Below.check_frames.specs.Meant.{scope_here}
 use Rattle.check_named.proofs.Begun.{history_begun}
 use Rattle.check_named.proofs.names.count_form.Goals as goal
 

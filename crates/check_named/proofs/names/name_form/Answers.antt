@@ -3,9 +3,9 @@ use Rattle.vdm_kinds.specs.declared.name_at.NameAt.{NameAt}
 use Rattle.abstract_syntax.specs.Expressions.{history}
 use Rattle.expr_tree.specs.View.{view_of}
 use Rattle.class_checks.specs.Expressions.{check}
-use Rattle.check_scopes.specs.Told.{first_in, spec_in, told}
-use Rattle.check_names.proofs.Notes.{if_ok}
-use Rattle.check_frames.specs.Meant.{scope_here}
+use Rattle.check_steps.specs.Below.check_scopes.specs.Told.{first_in, spec_in, told}
+use Rattle.check_steps.specs.Below.check_names.proofs.Notes.{if_ok}
+use Rattle.check_steps.specs.Below.check_frames.specs.Meant.{scope_here}
 use Rattle.check_named.proofs.Begun.{named_begun, old_begun}
 use Rattle.check_named.proofs.Views.{view-History, view-Name, view-Old, view-Qualified, view-Result, view-SelfObject, view-Time}
 use Rattle.check_named.proofs.names.name_form.Goals as goal

@@ -1,8 +1,8 @@
 use Rattle.std.proofs.Common.{ap, ◌∙◌}
 use Rattle.shared_names.specs.Maps.{held}
-use Rattle.check_scopes.specs.Told.{first_in, told}
-use Rattle.check_names.proofs.Notes.{if_ok}
-use Rattle.check_frames.specs.Meant.{scope_here}
+use Rattle.check_steps.specs.Below.check_scopes.specs.Told.{first_in, told}
+use Rattle.check_steps.specs.Below.check_names.proofs.Notes.{if_ok}
+use Rattle.check_steps.specs.Below.check_frames.specs.Meant.{scope_here}
 use Rattle.check_named.proofs.Begun.{self_begun}
 use Rattle.check_named.proofs.names.self_form.Goals as goal
 

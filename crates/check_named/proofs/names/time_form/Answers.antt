@@ -4,10 +4,10 @@ use Rattle.class_checks.specs.Members.{beyond}
 use Rattle.class_checks.specs.Operators.{number}
 use Rattle.class_checks.specs.Results.{gives}
 use Rattle.shared_names.specs.Maps.{held}
-use Rattle.check_scopes.specs.Told.{first_in, spec_in, told, told_refusing}
-use Rattle.check_names.proofs.Notes.{if_ok}
-use Rattle.check_names.specs.Noting.{Note}
-use Rattle.check_frames.specs.Meant.{scope_here}
+use Rattle.check_steps.specs.Below.check_scopes.specs.Told.{first_in, spec_in, told, told_refusing}
+use Rattle.check_steps.specs.Below.check_names.proofs.Notes.{if_ok}
+use Rattle.check_steps.specs.Below.check_names.specs.Noting.{Note}
+use Rattle.check_steps.specs.Below.check_frames.specs.Meant.{scope_here}
 use Rattle.check_named.proofs.Begun.{time_begun}
 use Rattle.check_named.proofs.names.time_form.Goals as goal
 

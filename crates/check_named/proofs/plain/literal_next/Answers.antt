@@ -1,7 +1,7 @@
 use Rattle.std.proofs.Common.{ap, sym, ◌∙◌}
 use Rattle.type_tree.specs.LiteralView.{literal_view}
 use Rattle.class_checks.specs.Results.{gives}
-use Rattle.check_frames.specs.Meant.{scope_here}
+use Rattle.check_steps.specs.Below.check_frames.specs.Meant.{scope_here}
 use Rattle.check_named.proofs.Begun.{literal_begun}
 use Rattle.check_named.proofs.plain.literal_next.Goals as goal
 

@@ -1,9 +1,9 @@
 use Rattle.std.proofs.Common.{ap, ◌∙◌}
 use Rattle.expr_tree.specs.View.{view_of}
 use Rattle.class_checks.specs.Expressions.{check}
-use Rattle.check_scopes.specs.Told.{spec_in}
-use Rattle.check_frames.specs.Meant.{scope_here}
-use Rattle.check_frames.specs.Steps.{onward}
+use Rattle.check_steps.specs.Below.check_scopes.specs.Told.{spec_in}
+use Rattle.check_steps.specs.Below.check_frames.specs.Meant.{scope_here}
+use Rattle.check_steps.specs.Below.check_frames.specs.Steps.{onward}
 use Rattle.check_named.proofs.Views.{view-Bracketed, view-EmptyMap, view-Literal}
 use Rattle.check_named.proofs.plain.plain_next.Goals as goal
 

@@ -1,8 +1,8 @@
 use Rattle.std.proofs.Common.{refl}
 use Rattle.class_checks.specs.Expressions.{class_faults}
-use Rattle.check_scopes.specs.Told.{first_in, spec_in}
-use Rattle.check_frames.specs.Meant.{scope_here}
-use Rattle.check_frames.specs.Steps.{refused_next, told_onward}
+use Rattle.check_steps.specs.Below.check_scopes.specs.Told.{first_in, spec_in}
+use Rattle.check_steps.specs.Below.check_frames.specs.Meant.{scope_here}
+use Rattle.check_steps.specs.Below.check_frames.specs.Steps.{refused_next, told_onward}
 use Rattle.check_named.proofs.Begun.{of_class_begun}
 use Rattle.check_named.proofs.tested.of_class_next.Goals as goal
 

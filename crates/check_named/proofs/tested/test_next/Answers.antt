@@ -3,9 +3,9 @@ use Rattle.vdm_kinds.specs.declared.name_at.NameAt.{NameAt}
 use Rattle.abstract_syntax.specs.Expressions.{is_of_base_class, is_of_class}
 use Rattle.expr_tree.specs.View.{view_of}
 use Rattle.class_checks.specs.Expressions.{check}
-use Rattle.check_scopes.specs.Told.{first_in, spec_in}
-use Rattle.check_frames.specs.Meant.{scope_here}
-use Rattle.check_frames.specs.Steps.{told_onward}
+use Rattle.check_steps.specs.Below.check_scopes.specs.Told.{first_in, spec_in}
+use Rattle.check_steps.specs.Below.check_frames.specs.Meant.{scope_here}
+use Rattle.check_steps.specs.Below.check_frames.specs.Steps.{told_onward}
 use Rattle.check_named.proofs.Views.{view-IsOfBaseClass, view-IsOfClass, view-IsOfNamed, view-IsOfType}
 use Rattle.check_named.proofs.tested.test_next.Goals as goal
 

@@ -1,10 +1,10 @@
 use Rattle.std.proofs.Common.{List, ap, map, sym}
 use Rattle.class_checks.specs.Shapes.{of_test}
-use Rattle.check_shapes.specs.ShapeView.{seen_view}
-use Rattle.check_shapes.specs.declared.shape.Seen.{Seen as SeenPart}
-use Rattle.check_frames.specs.Meant.{rest_check, scope_here}
-use Rattle.check_frames.specs.Steps.{onward}
-use Rattle.check_frames.specs.declared.rest.Rest.TheVariants.{One}
+use Rattle.check_steps.specs.Below.check_shapes.specs.ShapeView.{seen_view}
+use Rattle.check_steps.specs.Below.check_shapes.specs.declared.shape.Seen.{Seen as SeenPart}
+use Rattle.check_steps.specs.Below.check_frames.specs.Meant.{rest_check, scope_here}
+use Rattle.check_steps.specs.Below.check_frames.specs.Steps.{onward}
+use Rattle.check_steps.specs.Below.check_frames.specs.declared.rest.Rest.TheVariants.{One}
 use Rattle.check_named.proofs.tested.tested_next.Goals as goal
 
 pub returns : goal.returns

@@ -3,7 +3,7 @@ use Rattle.class_meaning.specs.Classes.{class_number}
 use Rattle.class_meaning.specs.declared.ask.Ask.TheVariants.{ByName}
 use Rattle.member_meaning.specs.Meaning.{unknown, meaning}
 use Rattle.class_checks.specs.Members.{read_in, read_meant}
-use Rattle.spec_table.specs.Meanings.{meant_view}
+use Rattle.check_scopes.specs.Below.spec_table.specs.Meanings.{meant_view}
 use Rattle.check_scopes.specs.Told.{scope_at, spec_in, told}
 use Rattle.check_names.proofs.ByNumber.{by_number}
 use Rattle.check_names.proofs.Notes.{if_ok}

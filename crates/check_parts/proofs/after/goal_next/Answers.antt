@@ -1,8 +1,8 @@
 use Rattle.std.proofs.Common.{ap, ◌∙◌}
-use Rattle.check_scopes.specs.Told.{first_in}
-use Rattle.check_frames.specs.Meant.{goal_check, scope_here}
-use Rattle.check_frames.specs.Steps.{told_next}
-use Rattle.check_steps.specs.Begun.{body_begun}
+use Rattle.check_series.specs.Below.check_scopes.specs.Told.{first_in}
+use Rattle.check_series.specs.Below.check_frames.specs.Meant.{goal_check, scope_here}
+use Rattle.check_series.specs.Below.check_frames.specs.Steps.{told_next}
+use Rattle.check_series.specs.Below.check_steps.specs.Begun.{body_begun}
 use Rattle.check_parts.proofs.after.goal_next.Goals as goal
 
 pub returns-in-Binds : goal.returns-in-Binds

@@ -1,8 +1,8 @@
 use Rattle.std.proofs.Common.{ap}
-use Rattle.check_scopes.specs.Told.{first_in}
-use Rattle.check_frames.specs.Meant.{choice_check, scope_here}
-use Rattle.check_frames.specs.Steps.{told_next}
-use Rattle.check_frames.specs.declared.choice.Choice.{Choice}
+use Rattle.check_series.specs.Below.check_scopes.specs.Told.{first_in}
+use Rattle.check_series.specs.Below.check_frames.specs.Meant.{choice_check, scope_here}
+use Rattle.check_series.specs.Below.check_frames.specs.Steps.{told_next}
+use Rattle.check_series.specs.Below.check_frames.specs.declared.choice.Choice.{Choice}
 use Rattle.check_parts.proofs.alternatives.choice_next.Goals as goal
 
 pub returns-in-Then : goal.returns-in-Then

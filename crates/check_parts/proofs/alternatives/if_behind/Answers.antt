@@ -1,8 +1,8 @@
 use Rattle.std.proofs.Common.{refl}
 use Rattle.class_checks.specs.Expressions.{want_faults}
 use Rattle.class_checks.specs.Operators.{truth}
-use Rattle.check_scopes.specs.Told.{first_in, spec_in}
-use Rattle.check_frames.specs.Steps.{refused_next}
+use Rattle.check_series.specs.Below.check_scopes.specs.Told.{first_in, spec_in}
+use Rattle.check_series.specs.Below.check_frames.specs.Steps.{refused_next}
 use Rattle.check_parts.proofs.alternatives.if_behind.Goals as goal
 
 pub returns : goal.returns

@@ -1,9 +1,9 @@
 use Rattle.std.proofs.Common.{ap, map, sym}
 use Rattle.expr_tree.specs.View.{case_view, maybe_view}
 use Rattle.form_meaning.specs.Forms.{FormTree}
-use Rattle.check_scopes.specs.Told.{first_in}
-use Rattle.check_frames.specs.Meant.{cases_check, scope_here}
-use Rattle.check_frames.specs.Steps.{told_onward}
+use Rattle.check_series.specs.Below.check_scopes.specs.Told.{first_in}
+use Rattle.check_series.specs.Below.check_frames.specs.Meant.{cases_check, scope_here}
+use Rattle.check_series.specs.Below.check_frames.specs.Steps.{told_onward}
 use Rattle.check_parts.proofs.alternatives.subject_behind.Goals as goal
 
 pub returns : goal.returns

@@ -1,7 +1,7 @@
 use Rattle.std.proofs.Common.{ap, sym}
 use Rattle.form_meaning.specs.Forms.{FormTree}
-use Rattle.check_frames.specs.Meant.{branches_check, scope_here}
-use Rattle.check_frames.specs.Steps.{onward}
+use Rattle.check_series.specs.Below.check_frames.specs.Meant.{branches_check, scope_here}
+use Rattle.check_series.specs.Below.check_frames.specs.Steps.{onward}
 use Rattle.check_parts.proofs.alternatives.then_behind.Goals as goal
 
 pub returns : goal.returns

@@ -1,8 +1,8 @@
 use Rattle.std.proofs.Common.{map}
 use Rattle.expr_tree.specs.View.{branch_trees, branch_view}
-use Rattle.check_frames.specs.Meant.{boxed, scope_here}
-use Rattle.check_frames.specs.Steps.{onward}
-use Rattle.check_steps.specs.Begun.{then_begun}
+use Rattle.check_series.specs.Below.check_frames.specs.Meant.{boxed, scope_here}
+use Rattle.check_series.specs.Below.check_frames.specs.Steps.{onward}
+use Rattle.check_series.specs.Below.check_steps.specs.Begun.{then_begun}
 use Rattle.check_parts.proofs.alternatives.then_next.Goals as goal
 
 pub returns : goal.returns

@@ -1,8 +1,8 @@
 use Rattle.std.proofs.Common.{ap, sym}
 use Rattle.form_meaning.specs.Forms.{FormTree}
-use Rattle.check_scopes.specs.Told.{first_in}
-use Rattle.check_frames.specs.Meant.{scope_here, values_check}
-use Rattle.check_frames.specs.Steps.{told_onward}
+use Rattle.check_series.specs.Below.check_scopes.specs.Told.{first_in}
+use Rattle.check_series.specs.Below.check_frames.specs.Meant.{scope_here, values_check}
+use Rattle.check_series.specs.Below.check_frames.specs.Steps.{told_onward}
 use Rattle.check_parts.proofs.alternatives.value_behind.Goals as goal
 
 pub returns : goal.returns

@@ -1,8 +1,8 @@
 use Rattle.std.proofs.Common.{ap}
-use Rattle.check_scopes.specs.Told.{first_in}
-use Rattle.check_frames.specs.Meant.{scope_here, step_check}
-use Rattle.check_frames.specs.Steps.{told_next}
-use Rattle.check_frames.specs.declared.step.Step.{Step}
+use Rattle.check_series.specs.Below.check_scopes.specs.Told.{first_in}
+use Rattle.check_series.specs.Below.check_frames.specs.Meant.{scope_here, step_check}
+use Rattle.check_series.specs.Below.check_frames.specs.Steps.{told_next}
+use Rattle.check_series.specs.Below.check_frames.specs.declared.step.Step.{Step}
 use Rattle.check_parts.proofs.frames.step_next.Goals as goal
 
 pub returns-in-Given : goal.returns-in-Given

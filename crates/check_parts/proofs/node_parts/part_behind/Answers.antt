@@ -1,9 +1,9 @@
 use Rattle.std.proofs.Common.{List, ap, map, sym}
 use Rattle.class_checks.specs.Shapes.{Seen, part_faults, want_of}
-use Rattle.check_scopes.specs.Told.{first_in, spec_in}
-use Rattle.check_shapes.specs.ShapeView.{seen_view, shape_view}
-use Rattle.check_frames.specs.Meant.{rest_check, scope_here}
-use Rattle.check_frames.specs.Steps.{refused_next}
+use Rattle.check_series.specs.Below.check_scopes.specs.Told.{first_in, spec_in}
+use Rattle.check_series.specs.Below.check_shapes.specs.ShapeView.{seen_view, shape_view}
+use Rattle.check_series.specs.Below.check_frames.specs.Meant.{rest_check, scope_here}
+use Rattle.check_series.specs.Below.check_frames.specs.Steps.{refused_next}
 use Rattle.check_parts.proofs.node_parts.part_behind.Goals as goal
 
 pub returns : goal.returns

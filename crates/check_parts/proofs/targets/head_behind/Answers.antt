@@ -1,9 +1,9 @@
 use Rattle.std.proofs.Common.{[], refl, length}
 use Rattle.class_checks.specs.Callees.{value_callee}
-use Rattle.check_scopes.specs.Told.{first_in, spec_in}
-use Rattle.check_frames.specs.Meant.{scope_here}
-use Rattle.check_frames.specs.declared.rest.Rest.TheVariants.{Items}
-use Rattle.check_steps.specs.Calls.{called_on}
+use Rattle.check_series.specs.Below.check_scopes.specs.Told.{first_in, spec_in}
+use Rattle.check_series.specs.Below.check_frames.specs.Meant.{scope_here}
+use Rattle.check_series.specs.Below.check_frames.specs.declared.rest.Rest.TheVariants.{Items}
+use Rattle.check_series.specs.Below.check_steps.specs.Calls.{called_on}
 use Rattle.check_parts.proofs.targets.head_behind.Goals as goal
 
 pub returns : goal.returns

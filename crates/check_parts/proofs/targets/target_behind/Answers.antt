@@ -1,11 +1,11 @@
 use Rattle.std.proofs.Common.{sym, ◌∙◌}
 use Rattle.class_checks.specs.Callees.{selected_callee}
 use Rattle.shared_names.specs.Maps.{held}
-use Rattle.check_scopes.specs.Told.{first_in, spec_in}
-use Rattle.check_calls.specs.Selecting.{use_view}
-use Rattle.check_frames.specs.Meant.{called_with, scope_here}
-use Rattle.check_frames.specs.Steps.{told_onward}
-use Rattle.check_steps.specs.Calls.{called_on}
+use Rattle.check_series.specs.Below.check_scopes.specs.Told.{first_in, spec_in}
+use Rattle.check_series.specs.Below.check_calls.specs.Selecting.{use_view}
+use Rattle.check_series.specs.Below.check_frames.specs.Meant.{called_with, scope_here}
+use Rattle.check_series.specs.Below.check_frames.specs.Steps.{told_onward}
+use Rattle.check_series.specs.Below.check_steps.specs.Calls.{called_on}
 use Rattle.check_parts.proofs.Behinds.{target_begun}
 use Rattle.check_parts.proofs.targets.target_behind.Goals as goal
 

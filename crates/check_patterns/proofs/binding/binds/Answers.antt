@@ -2,7 +2,7 @@ use Rattle.std.proofs.Common.{ap}
 use Rattle.expr_tree.specs.View.{pattern_view}
 use Rattle.form_meaning.specs.Forms.{FormTree}
 use Rattle.class_checks.specs.Patterns.{binds}
-use Rattle.check_scopes.specs.Told.{spec_in, types_in}
+use Rattle.check_types.specs.Below.check_scopes.specs.Told.{spec_in, types_in}
 use Rattle.check_patterns.proofs.Waiting.{found_alone}
 use Rattle.check_patterns.proofs.binding.binds.Goals as goal
 

@@ -1,7 +1,7 @@
 use Rattle.std.proofs.Common.{ap, ◌∙◌}
 use Rattle.form_meaning.specs.Forms.{FormTree}
 use Rattle.class_checks.specs.Patterns.{binds_each}
-use Rattle.check_scopes.specs.Told.{spec_in, types_in}
+use Rattle.check_types.specs.Below.check_scopes.specs.Told.{spec_in, types_in}
 use Rattle.check_patterns.specs.Shown.{patterns_of}
 use Rattle.check_patterns.proofs.Waiting.{found_whole}
 use Rattle.check_patterns.proofs.binding.binds_each.Goals as goal

@@ -1,5 +1,5 @@
 use Rattle.std.proofs.Common.{◌≡◌}
-use Rattle.check_scopes.specs.Told.{spec_in, types_in}
+use Rattle.check_types.specs.Below.check_scopes.specs.Told.{spec_in, types_in}
 use Rattle.check_patterns.specs.Pending.{all_found}
 use Rattle.check_patterns.proofs.bound.all_bound.Given as goal
 

@@ -1,7 +1,7 @@
 use Rattle.std.proofs.Common.{List, drop, ap, ◌∙◌}
 use Rattle.form_meaning.specs.Forms.{FormTree}
 use Rattle.class_checks.specs.Patterns.{first_form}
-use Rattle.check_scopes.specs.Told.{spec_in, types_in}
+use Rattle.check_types.specs.Below.check_scopes.specs.Told.{spec_in, types_in}
 use Rattle.check_patterns.proofs.Shapes.{fields_headed}
 use Rattle.check_patterns.proofs.Waiting.{same_found}
 use Rattle.check_patterns.proofs.bound.with_fields.Goals as goal

@@ -1,6 +1,6 @@
 use Rattle.expr_tree.specs.View.{pattern_view}
 use Rattle.class_checks.specs.Patterns.{binds}
-use Rattle.check_scopes.specs.Told.{spec_in, types_in}
+use Rattle.check_types.specs.Below.check_scopes.specs.Told.{spec_in, types_in}
 use Rattle.check_patterns.proofs.Waiting.{found_through}
 use Rattle.check_patterns.proofs.bound.with_first.Goals as goal
 

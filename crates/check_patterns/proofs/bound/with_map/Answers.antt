@@ -1,7 +1,7 @@
 use Rattle.std.proofs.Common.{map}
 use Rattle.expr_tree.specs.View.{maplet_pattern_view, maplet_pattern_trees}
 use Rattle.class_checks.specs.Patterns.{binds_maplets}
-use Rattle.check_scopes.specs.Told.{spec_in, types_in}
+use Rattle.check_types.specs.Below.check_scopes.specs.Told.{spec_in, types_in}
 use Rattle.check_patterns.proofs.Waiting.{same_found}
 use Rattle.check_patterns.proofs.bound.with_map.Goals as goal
 

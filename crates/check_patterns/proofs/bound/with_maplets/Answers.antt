@@ -2,7 +2,7 @@ use Rattle.std.proofs.Common.{rules, ◌++◌, ap, ◌∙◌}
 use Rattle.expr_tree.specs.View.{pattern_view}
 use Rattle.expr_tree.specs.declared.pattern.MapletPattern.{the_lemmas}
 use Rattle.class_checks.specs.Patterns.{binds}
-use Rattle.check_scopes.specs.Told.{spec_in, types_in}
+use Rattle.check_types.specs.Below.check_scopes.specs.Told.{spec_in, types_in}
 use Rattle.check_patterns.specs.Pending.{found_before}
 use Rattle.check_patterns.proofs.Shapes.{maplets_headed}
 use Rattle.check_patterns.proofs.Waiting.{found_through}

@@ -1,5 +1,5 @@
 use Rattle.std.proofs.Common.{rules}
-use Rattle.check_scopes.specs.Told.{spec_in, types_in}
+use Rattle.check_types.specs.Below.check_scopes.specs.Told.{spec_in, types_in}
 use Rattle.check_patterns.proofs.Shapes.{set_binds, sequence_binds, fronts_bind, tuple_binds, record_binds, map_binds, name_binds}
 use Rattle.check_patterns.proofs.Waiting.{same_found}
 use Rattle.check_patterns.proofs.bound.with_pattern.Goals as goal

@@ -1,7 +1,7 @@
 use Rattle.std.proofs.Common.{arith, rules}
 use Rattle.expr_tree.specs.View.{pattern_view}
 use Rattle.expr_tree.specs.declared.pattern.MapletPattern.{the_lemmas}
-use Rattle.check_scopes.specs.Told.{first_in, spec_in, types_in}
+use Rattle.check_types.specs.Below.check_scopes.specs.Told.{first_in, spec_in, types_in}
 use Rattle.check_patterns.proofs.PatternSizes.{nodes_of_set, nodes_of_sequence, nodes_of_tuple, nodes_of_concatenation, nodes_of_record, nodes_of_map, nodes_of_one, nodes_of_key, nodes_of_value}
 use Rattle.check_patterns.proofs.RefusedTurns.{pattern_turn, patterns_end, maplet_turn, maplets_end, record_told}
 use Rattle.check_patterns.proofs.refused.+refusing.Goals as goal

@@ -2,7 +2,7 @@ use Rattle.std.proofs.Common.{◌≡◌, ◌+◌, ◌*◌, map, drop}
 use Rattle.expr_tree.specs.View.{pattern_view, pattern_views, pattern_trees, maplet_pattern_view, maplet_pattern_trees}
 use Rattle.class_checks.specs.Patterns.{patterns_faults, maplets_faults}
 use Rattle.class_checks.specs.Results.{first_among}
-use Rattle.check_scopes.specs.Told.{first_in, spec_in, types_in}
+use Rattle.check_types.specs.Below.check_scopes.specs.Told.{first_in, spec_in, types_in}
 use Rattle.check_patterns.proofs.PatternSizes.{nodes, nodes_in, nodes_among}
 use Rattle.check_patterns.proofs.refused.+refusing.Given as goal
 

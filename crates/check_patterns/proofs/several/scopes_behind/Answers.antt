@@ -3,7 +3,7 @@ use Rattle.expr_tree.specs.declared.pattern.Pattern.{Pattern}
 use Rattle.expr_tree.specs.View.{pattern_views, pattern_trees}
 use Rattle.shared_names.specs.Maps.{held}
 use Rattle.class_checks.specs.Patterns.{bindings_of, scopes_behind}
-use Rattle.check_scopes.specs.Told.{scope_at, spec_in, types_in}
+use Rattle.check_types.specs.Below.check_scopes.specs.Told.{scope_at, spec_in, types_in}
 use Rattle.check_patterns.specs.Shown.{bindings_in}
 use Rattle.check_patterns.proofs.ScopeTurns.{same_scopes}
 use Rattle.check_patterns.proofs.several.scopes_behind.Goals as goal

@@ -2,7 +2,7 @@ use Rattle.std.proofs.Common.{Bool, List, ◌++◌, ap, ◌∙◌}
 use Rattle.shared_names.specs.Maps.{held}
 use Rattle.class_checks.specs.Patterns.{scope_if, with_each}
 use Rattle.class_checks.specs.Scopes.{ScopeTree}
-use Rattle.check_scopes.specs.Told.{scope_at}
+use Rattle.check_types.specs.Below.check_scopes.specs.Told.{scope_at}
 use Rattle.check_patterns.specs.Shown.{bindings_in}
 use Rattle.check_patterns.proofs.ScopeTurns.{same_scopes}
 use Rattle.check_patterns.proofs.several.scopes_of.Goals as goal

@@ -1,6 +1,6 @@
 use Rattle.std.proofs.Common.{List, [], ◌∷◌, ◌++◌, map, ap, ◌∙◌}
 use Rattle.shared_names.specs.Maps.{held}
-use Rattle.check_scopes.specs.Told.{scope_at}
+use Rattle.check_types.specs.Below.check_scopes.specs.Told.{scope_at}
 use Rattle.class_checks.specs.Patterns.{with_each}
 use Rattle.check_patterns.specs.Shown.{local_view, scopes_at}
 use Rattle.check_patterns.specs.declared.local_form.LocalForm.{LocalForm as Local}

@@ -1,7 +1,7 @@
 use Rattle.std.proofs.Common.{map}
-use Rattle.check_patterns.specs.Shown.{local_view}
-use Rattle.check_frames.specs.Meant.{scope_here}
-use Rattle.check_frames.specs.Steps.{onward}
+use Rattle.check_steps.specs.Below.check_patterns.specs.Shown.{local_view}
+use Rattle.check_steps.specs.Below.check_frames.specs.Meant.{scope_here}
+use Rattle.check_steps.specs.Below.check_frames.specs.Steps.{onward}
 use Rattle.check_steps.specs.Listed.{binds_first, binds_none}
 use Rattle.check_series.proofs.binding.binds_next.Goals as goal
 

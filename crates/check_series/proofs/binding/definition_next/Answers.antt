@@ -1,7 +1,7 @@
 use Rattle.std.proofs.Common.{map}
 use Rattle.expr_tree.specs.View.{defined_view}
-use Rattle.check_frames.specs.Meant.{boxed, scope_here}
-use Rattle.check_frames.specs.Steps.{onward}
+use Rattle.check_steps.specs.Below.check_frames.specs.Meant.{boxed, scope_here}
+use Rattle.check_steps.specs.Below.check_frames.specs.Steps.{onward}
 use Rattle.check_steps.specs.Placed.{value_at}
 use Rattle.check_series.proofs.binding.definition_next.Goals as goal
 

@@ -1,5 +1,5 @@
-use Rattle.check_frames.specs.Meant.{boxed, scope_here}
-use Rattle.check_frames.specs.Steps.{onward}
+use Rattle.check_steps.specs.Below.check_frames.specs.Meant.{boxed, scope_here}
+use Rattle.check_steps.specs.Below.check_frames.specs.Steps.{onward}
 use Rattle.check_steps.specs.Listed.{definitions_first, definitions_none}
 use Rattle.check_series.proofs.binding.definitions_next.Goals as goal
 

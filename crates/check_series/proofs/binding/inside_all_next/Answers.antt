@@ -1,9 +1,9 @@
 use Rattle.std.proofs.Common.{List, ap, map, ◌∙◌}
 use Rattle.class_checks.specs.Scopes.{all_bound}
 use Rattle.shared_names.specs.Maps.{held}
-use Rattle.check_patterns.specs.declared.local_form.LocalForm.{LocalForm as Local}
-use Rattle.check_patterns.specs.Shown.{local_view}
-use Rattle.check_frames.specs.Steps.{onward}
+use Rattle.check_steps.specs.Below.check_patterns.specs.declared.local_form.LocalForm.{LocalForm as Local}
+use Rattle.check_steps.specs.Below.check_patterns.specs.Shown.{local_view}
+use Rattle.check_steps.specs.Below.check_frames.specs.Steps.{onward}
 use Rattle.check_steps.specs.Scoped.{inside_found}
 use Rattle.check_series.proofs.binding.inside_all_next.Goals as goal
 

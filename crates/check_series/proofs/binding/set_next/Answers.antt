@@ -1,8 +1,8 @@
 use Rattle.std.proofs.Common.{map}
 use Rattle.expr_tree.specs.View.{bind_trees, bind_view}
-use Rattle.check_patterns.specs.Shown.{local_view, patterns_of}
-use Rattle.check_frames.specs.Meant.{boxed, scope_here}
-use Rattle.check_frames.specs.Steps.{onward}
+use Rattle.check_steps.specs.Below.check_patterns.specs.Shown.{local_view, patterns_of}
+use Rattle.check_steps.specs.Below.check_frames.specs.Meant.{boxed, scope_here}
+use Rattle.check_steps.specs.Below.check_frames.specs.Steps.{onward}
 use Rattle.check_steps.specs.Placed.{set_at}
 use Rattle.check_series.proofs.binding.set_next.Goals as goal
 

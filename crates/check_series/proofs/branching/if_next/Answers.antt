@@ -1,7 +1,7 @@
 use Rattle.std.proofs.Common.{map}
 use Rattle.expr_tree.specs.View.{branch_trees, branch_view}
-use Rattle.check_frames.specs.Meant.{boxed, scope_here}
-use Rattle.check_frames.specs.Steps.{onward}
+use Rattle.check_steps.specs.Below.check_frames.specs.Meant.{boxed, scope_here}
+use Rattle.check_steps.specs.Below.check_frames.specs.Steps.{onward}
 use Rattle.check_steps.specs.Placed.{branch_at}
 use Rattle.check_series.proofs.branching.if_next.Goals as goal
 

@@ -4,9 +4,9 @@ use Rattle.std.specs.declared.boxed.Box.{Box}
 use Rattle.expr_tree.specs.View.{maybe_view}
 use Rattle.expr_tree.specs.declared.expr.Expr.{Expr}
 use Rattle.class_checks.specs.Expressions.{others_in}
-use Rattle.check_scopes.specs.Told.{spec_in}
-use Rattle.check_frames.specs.Meant.{scope_here}
-use Rattle.check_frames.specs.Steps.{onward}
+use Rattle.check_steps.specs.Below.check_scopes.specs.Told.{spec_in}
+use Rattle.check_steps.specs.Below.check_frames.specs.Meant.{scope_here}
+use Rattle.check_steps.specs.Below.check_frames.specs.Steps.{onward}
 use Rattle.check_steps.specs.Begun.{no_others, others_begun}
 use Rattle.check_series.proofs.branching.others_next.Goals as goal
 

@@ -1,9 +1,9 @@
 use Rattle.std.proofs.Common.{refl}
 use Rattle.expr_tree.specs.View.{pattern_trees, pattern_views, view_of}
 use Rattle.class_checks.specs.Patterns.{patterns_faults}
-use Rattle.check_scopes.specs.Told.{first_in, spec_in, types_in}
-use Rattle.check_frames.specs.Meant.{scope_here}
-use Rattle.check_frames.specs.Steps.{refused_next, told_onward}
+use Rattle.check_steps.specs.Below.check_scopes.specs.Told.{first_in, spec_in, types_in}
+use Rattle.check_steps.specs.Below.check_frames.specs.Meant.{scope_here}
+use Rattle.check_steps.specs.Below.check_frames.specs.Steps.{refused_next, told_onward}
 use Rattle.check_steps.specs.Begun.{case_begun}
 use Rattle.check_series.proofs.cases.case_next.Goals as goal
 

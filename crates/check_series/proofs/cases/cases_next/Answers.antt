@@ -1,7 +1,7 @@
 use Rattle.expr_tree.specs.View.{maybe_view}
-use Rattle.check_scopes.specs.Told.{first_in}
-use Rattle.check_frames.specs.Meant.{scope_here}
-use Rattle.check_frames.specs.Steps.{told_next, told_onward}
+use Rattle.check_steps.specs.Below.check_scopes.specs.Told.{first_in}
+use Rattle.check_steps.specs.Below.check_frames.specs.Meant.{scope_here}
+use Rattle.check_steps.specs.Below.check_frames.specs.Steps.{told_next, told_onward}
 use Rattle.check_steps.specs.Firsts.{first_and_rest}
 use Rattle.check_steps.specs.Listed.{cases_first, cases_none}
 use Rattle.check_series.proofs.cases.cases_next.Goals as goal

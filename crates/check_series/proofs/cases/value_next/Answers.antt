@@ -1,5 +1,5 @@
 use Rattle.shared_names.specs.Maps.{held}
-use Rattle.check_frames.specs.Meant.{at}
+use Rattle.check_steps.specs.Below.check_frames.specs.Meant.{at}
 use Rattle.check_steps.specs.Begun.{value_begun}
 use Rattle.check_series.proofs.cases.value_next.Goals as goal
 

@@ -1,8 +1,8 @@
 use Rattle.std.proofs.Common.{ap, drop, map, sym, ◌+◌, ◌∙◌, ◌∷◌}
 use Rattle.class_checks.specs.Scopes.{Locals}
-use Rattle.check_scopes.specs.Told.{first_in, scope_at}
-use Rattle.check_frames.specs.Meant.{at, boxed, scope_here}
-use Rattle.check_frames.specs.Steps.{told_next, told_onward}
+use Rattle.check_steps.specs.Below.check_scopes.specs.Told.{first_in, scope_at}
+use Rattle.check_steps.specs.Below.check_frames.specs.Meant.{at, boxed, scope_here}
+use Rattle.check_steps.specs.Below.check_frames.specs.Steps.{told_next, told_onward}
 use Rattle.check_steps.specs.Begun.{first_value, no_values}
 use Rattle.check_steps.specs.Firsts.{next_mapped, past_mapped}
 use Rattle.check_series.proofs.cases.values_next.Goals as goal

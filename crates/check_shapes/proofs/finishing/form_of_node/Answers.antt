@@ -1,7 +1,7 @@
 use Rattle.std.proofs.Common.{◌≡◌, ◌∙◌, ap, map, subst, sym, IfOk}
 use Rattle.form_meaning.specs.Forms.{FormTree, FormTrees, only, tuple_alt}
 use Rattle.class_checks.specs.Shapes.{ShapeTree, finished}
-use Rattle.check_scopes.specs.Told.{spec_in}
+use Rattle.check_fields.specs.Below.check_scopes.specs.Told.{spec_in}
 use Rattle.check_shapes.specs.ShapeView.{seen_view, shape_view}
 use Rattle.check_shapes.proofs.finishing.form_of_node.Goals as goal
 

@@ -5,7 +5,7 @@ use Rattle.form_meaning.specs.Forms.{FormTree}
 use Rattle.form_meaning.specs.Parts.{taken}
 use Rattle.class_checks.specs.TypeNames.{opened}
 use Rattle.class_checks.specs.Shapes.{takes_first, unfit, part_numbered}
-use Rattle.check_scopes.specs.Told.{spec_in}
+use Rattle.check_fields.specs.Below.check_scopes.specs.Told.{spec_in}
 use Rattle.check_shapes.specs.ShapeView.{seen_view}
 use Rattle.check_shapes.proofs.Gathered.{gone, stays}
 use Rattle.check_shapes.proofs.Turns.{left_first}

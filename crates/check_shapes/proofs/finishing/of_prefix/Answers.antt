@@ -2,7 +2,7 @@ use Rattle.std.proofs.Common.{◌≡◌, ◌∙◌, ap, map, subst, IfOk}
 use Rattle.form_meaning.specs.Forms.{FormTree}
 use Rattle.class_checks.specs.Operators.{Source, gives_of_one, is_source, takes_from}
 use Rattle.class_checks.specs.Shapes.{unfit}
-use Rattle.check_scopes.specs.Told.{spec_in}
+use Rattle.check_fields.specs.Below.check_scopes.specs.Told.{spec_in}
 use Rattle.check_shapes.specs.ShapeView.{seen_view}
 use Rattle.check_shapes.proofs.Gathered.{gone, stays}
 use Rattle.check_shapes.proofs.finishing.of_prefix.Goals as goal

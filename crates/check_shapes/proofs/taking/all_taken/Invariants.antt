@@ -2,7 +2,7 @@ use Rattle.std.proofs.Common.{◌≡◌, drop}
 use Rattle.form_meaning.specs.Forms.{no_form}
 use Rattle.form_meaning.specs.Parts.{taken_of}
 use Rattle.type_forms.specs.Tree.{alt_trees}
-use Rattle.check_scopes.specs.Told.{spec_in}
+use Rattle.check_fields.specs.Below.check_scopes.specs.Told.{spec_in}
 use Rattle.check_shapes.specs.Takings.{take_by}
 use Rattle.check_shapes.proofs.taking.all_taken.Given as goal
 

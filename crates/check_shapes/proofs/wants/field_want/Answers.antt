@@ -1,7 +1,7 @@
 use Rattle.std.proofs.Common.{◌≡◌, ◌∙◌, ap, subst, IfOk, Option, Some, None}
 use Rattle.vdm_kinds.specs.declared.name.Name.{Name}
 use Rattle.class_checks.specs.Shapes.{field_want}
-use Rattle.check_scopes.specs.Told.{spec_in}
+use Rattle.check_fields.specs.Below.check_scopes.specs.Told.{spec_in}
 use Rattle.check_shapes.specs.ShapeView.{names_of, seen_view}
 use Rattle.check_shapes.proofs.Places.{name_lookup}
 use Rattle.check_shapes.proofs.wants.field_want.Goals as goal

@@ -1,6 +1,6 @@
 use Rattle.std.proofs.Common.{◌∙◌, ap, Some, None}
 use Rattle.class_checks.specs.TypeNames.{meets}
-use Rattle.check_scopes.specs.Told.{spec_in}
+use Rattle.check_fields.specs.Below.check_scopes.specs.Told.{spec_in}
 use Rattle.check_shapes.proofs.AnyForm.{any_met}
 use Rattle.check_shapes.proofs.Places.{want_lookup}
 use Rattle.check_shapes.proofs.wants.fits_argument.Goals as goal

@@ -1,6 +1,6 @@
 use Rattle.std.proofs.Common.{◌≡◌, ◌-◌, length, subst, arith, IfOk}
 use Rattle.class_checks.specs.Shapes.{Want, fits}
-use Rattle.check_scopes.specs.Told.{spec_in}
+use Rattle.check_fields.specs.Below.check_scopes.specs.Told.{spec_in}
 use Rattle.check_shapes.specs.ShapeView.{names_of}
 use Rattle.check_shapes.proofs.Places.{target_first}
 use Rattle.check_shapes.proofs.wants.fits_changed.Goals as goal

@@ -1,8 +1,8 @@
 use Rattle.std.proofs.Common.{List, ap, map, sym}
 use Rattle.class_checks.specs.Shapes.{of_call}
 use Rattle.type_forms.specs.Tree.{form_trees}
-use Rattle.check_shapes.specs.ShapeView.{seen_view}
-use Rattle.check_shapes.specs.declared.shape.Seen.{Seen as SeenPart}
+use Rattle.check_frames.specs.Below.check_shapes.specs.ShapeView.{seen_view}
+use Rattle.check_frames.specs.Below.check_shapes.specs.declared.shape.Seen.{Seen as SeenPart}
 use Rattle.check_frames.specs.Meant.{rest_check, scope_here}
 use Rattle.check_frames.specs.Steps.{onward}
 use Rattle.check_steps.proofs.calls.called_next.Goals as goal

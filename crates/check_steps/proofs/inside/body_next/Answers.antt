@@ -1,6 +1,6 @@
 use Rattle.std.proofs.Common.{List, ap, map, sym, ◌∙◌}
-use Rattle.check_shapes.specs.ShapeView.{seen_view, shape_view}
-use Rattle.check_shapes.specs.declared.shape.Seen.{Seen as SeenPart}
+use Rattle.check_frames.specs.Below.check_shapes.specs.ShapeView.{seen_view, shape_view}
+use Rattle.check_frames.specs.Below.check_shapes.specs.declared.shape.Seen.{Seen as SeenPart}
 use Rattle.check_frames.specs.Meant.{body_check, rest_check, scope_here}
 use Rattle.check_frames.specs.Steps.{onward}
 use Rattle.check_steps.proofs.inside.body_next.Goals as goal

@@ -4,7 +4,7 @@ use Rattle.std.specs.declared.alloc.Global.{Global}
 use Rattle.std.specs.declared.boxed.Box.{Box}
 use Rattle.expr_tree.specs.declared.expr.Expr.{Expr}
 use Rattle.class_checks.specs.Expressions.{where_true}
-use Rattle.check_scopes.specs.Told.{spec_in}
+use Rattle.check_calls.specs.Below.check_scopes.specs.Told.{spec_in}
 use Rattle.check_frames.specs.Meant.{body_check, maybe_boxed, scope_here}
 use Rattle.check_frames.specs.Steps.{onward}
 use Rattle.check_steps.specs.Begun.{no_condition}

@@ -1,5 +1,5 @@
 use Rattle.std.proofs.Common.{map}
-use Rattle.check_shapes.specs.ShapeView.{seen_view, shape_view}
+use Rattle.check_frames.specs.Below.check_shapes.specs.ShapeView.{seen_view, shape_view}
 use Rattle.check_frames.specs.Meant.{scope_here}
 use Rattle.check_frames.specs.Steps.{onward}
 use Rattle.check_steps.specs.Listed.{items_first, items_none}

@@ -3,8 +3,8 @@ use Rattle.expr_tree.specs.View.{field_value_trees, field_value_view}
 use Rattle.expr_tree.specs.declared.parts.FieldValue.{FieldValue}
 use Rattle.class_checks.specs.Expressions.{changed}
 use Rattle.class_checks.specs.Shapes.{Seen}
-use Rattle.check_scopes.specs.Told.{spec_in}
-use Rattle.check_shapes.specs.ShapeView.{names_of, seen_view, shape_view}
+use Rattle.check_calls.specs.Below.check_scopes.specs.Told.{spec_in}
+use Rattle.check_frames.specs.Below.check_shapes.specs.ShapeView.{names_of, seen_view, shape_view}
 use Rattle.check_frames.specs.Meant.{boxed, part_then, rest_check, scope_here}
 use Rattle.check_frames.specs.Steps.{onward}
 use Rattle.check_steps.proofs.parts.rest_next.Goals as goal

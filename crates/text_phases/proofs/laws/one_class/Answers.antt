@@ -2,4 +2,4 @@ use Rattle.text_phases.proofs.Classes.{one_class}
 use Rattle.text_phases.proofs.laws.one_class.Goals as goal
 
 pub returns : goal.returns
-returns c = λ spec tree checked. one_class spec (checked.names, tree) checked.specification
+returns c = one_class

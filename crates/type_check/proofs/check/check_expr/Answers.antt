@@ -3,9 +3,9 @@ use Rattle.vdm_kinds.specs.declared.spec_fault.SpecFault.{SpecFault}
 use Rattle.expr_tree.specs.View.{view_of}
 use Rattle.class_checks.specs.Expressions.{check}
 use Rattle.class_checks.specs.Results.{first_among}
-use Rattle.check_scopes.specs.Told.{Told, scope_view}
+use Rattle.check_named.specs.Below.check_scopes.specs.Told.{Told, scope_view}
 use Rattle.type_check.proofs.Faults.{fault_in}
-use Rattle.spec_table.specs.Tables.{table_spec}
+use Rattle.check_named.specs.Below.spec_table.specs.Tables.{table_spec}
 use Rattle.type_check.proofs.check.check_expr.Goals as goal
 
 pub returns-in-Some : goal.returns-in-Some

@@ -1,8 +1,8 @@
 use Rattle.std.proofs.Common.{List, ap, sym, ◌∙◌}
-use Rattle.check_scopes.specs.Told.{first_in, told}
-use Rattle.check_names.proofs.Notes.{if_ok}
-use Rattle.check_frames.specs.Meant.{next_check, under}
-use Rattle.check_frames.specs.declared.step.Frame.{Frame}
+use Rattle.check_named.specs.Below.check_scopes.specs.Told.{first_in, told}
+use Rattle.check_named.specs.Below.check_names.proofs.Notes.{if_ok}
+use Rattle.check_named.specs.Below.check_frames.specs.Meant.{next_check, under}
+use Rattle.check_named.specs.Below.check_frames.specs.declared.step.Frame.{Frame}
 use Rattle.type_check.proofs.check.form_here.Goals as goal
 
 pub returns : goal.returns

@@ -1,6 +1,6 @@
 use Rattle.std.proofs.Common.{refl}
-use Rattle.check_scopes.specs.Told.{first_in}
-use Rattle.check_frames.specs.Steps.{told_next}
+use Rattle.check_named.specs.Below.check_scopes.specs.Told.{first_in}
+use Rattle.check_named.specs.Below.check_frames.specs.Steps.{told_next}
 use Rattle.type_check.proofs.exprs.expr_next.Goals as goal
 
 pub returns-in-Plain : goal.returns-in-Plain

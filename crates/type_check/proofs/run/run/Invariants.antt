@@ -1,5 +1,5 @@
 use Rattle.std.proofs.Common.{◌≡◌}
-use Rattle.check_scopes.specs.Told.{first_in, told}
+use Rattle.check_named.specs.Below.check_scopes.specs.Told.{first_in, told}
 use Rattle.type_check.specs.Checks.{state_check}
 use Rattle.type_check.proofs.run.run.Given as goal
 

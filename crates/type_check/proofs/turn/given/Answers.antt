@@ -1,8 +1,8 @@
 use Rattle.std.proofs.Common.{List, [], ◌++◌, ◌-◌, take, ap, ◌∙◌}
 use Rattle.class_checks.specs.Results.{gives}
-use Rattle.check_scopes.specs.Told.{first_in, told}
-use Rattle.check_frames.specs.Meant.{next_check, under}
-use Rattle.check_frames.specs.declared.step.Frame.{Frame}
+use Rattle.check_named.specs.Below.check_scopes.specs.Told.{first_in, told}
+use Rattle.check_named.specs.Below.check_frames.specs.Meant.{next_check, under}
+use Rattle.check_named.specs.Below.check_frames.specs.declared.step.Frame.{Frame}
 use Rattle.type_check.proofs.Turns.{told_popped}
 use Rattle.type_check.proofs.turn.given.Goals as goal
 

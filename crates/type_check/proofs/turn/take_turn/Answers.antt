@@ -1,9 +1,9 @@
 use Rattle.std.proofs.Common.{ap, sym, ◌∙◌}
 use Rattle.expr_tree.specs.View.{view_of}
 use Rattle.class_checks.specs.Expressions.{check}
-use Rattle.check_scopes.specs.Told.{first_in, spec_in, told}
-use Rattle.check_frames.specs.Meant.{after_check, at, next_check, under}
-use Rattle.check_frames.specs.declared.next.Next.{Next}
+use Rattle.check_named.specs.Below.check_scopes.specs.Told.{first_in, spec_in, told}
+use Rattle.check_named.specs.Below.check_frames.specs.Meant.{after_check, at, next_check, under}
+use Rattle.check_named.specs.Below.check_frames.specs.declared.next.Next.{Next}
 use Rattle.type_check.proofs.Turns.{told_pushed, told_under}
 use Rattle.type_check.proofs.turn.take_turn.Goals as goal
 

@@ -2,7 +2,7 @@ use Rattle.std.proofs.Common.{sym}
 use Rattle.expr_tree.specs.View.{view_of}
 use Rattle.class_checks.specs.Expressions.{check}
 use Rattle.class_checks.specs.Results.{after}
-use Rattle.check_scopes.specs.Told.{scope_at, spec_in}
+use Rattle.check_patterns.specs.Below.check_scopes.specs.Told.{scope_at, spec_in}
 use Rattle.check_frames.specs.Meant.{step_check}
 use Rattle.check_frames.proofs.next.Next.part.Goals as goal
 

@@ -1,0 +1,2 @@
+-- Crates below that are handed on.
+pub use Rattle.check_binds

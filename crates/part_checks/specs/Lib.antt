@@ -1,0 +1,4 @@
+pub mod Below
+pub mod Wanting
+pub mod Binding
+pub mod Behind

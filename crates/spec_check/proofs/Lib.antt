@@ -1,0 +1,4 @@
+mod ByNames
+mod FineLemmas
+mod Noted
+mod Turns

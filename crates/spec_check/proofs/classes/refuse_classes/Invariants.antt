@@ -1,0 +1,14 @@
+use Rattle.std.proofs.Common.{◌≡◌, drop}
+use Rattle.std.specs.List.{flat_map}
+use Rattle.class_checks.specs.Results.{first_among}
+use Rattle.sync_checks.specs.Below.check_scopes.specs.Told.{first_in}
+use Rattle.spec_checks.specs.Definitions.{class_faults}
+use Rattle.sync_checks.specs.Below.spec_table.specs.Tables.{table_spec}
+use Rattle.spec_check.specs.Named.{faults_named}
+use Rattle.spec_check.proofs.classes.refuse_classes.Given as goal
+
+-- those that are left, behind what was refused so far
+abbrev pub invariant-loop-name : goal.invariant-loop-name
+invariant-loop-name l =
+    first_among (first_in l.refusals) (flat_map (faults_named (class_faults (table_spec l.table)) (table_spec l.table)) (drop l.name-index l.names))
+    ≡ first_among (first_in l.fn.refusals) (flat_map (faults_named (class_faults (table_spec l.table)) (table_spec l.table)) l.names)

@@ -1,0 +1,18 @@
+use Rattle.std.proofs.Common.{arith}
+use Rattle.abstract_syntax.specs.Classes.{ValueDefTree}
+use Rattle.vdm_tree.specs.ClassView.{value_def_view}
+use Rattle.spec_checks.specs.Definitions.{value_faults}
+use Rattle.sync_checks.specs.Below.check_scopes.specs.Told.{first_in}
+use Rattle.sync_checks.specs.Below.definition_scopes.specs.Standing.{spec_at}
+use Rattle.spec_check.proofs.Turns.{turn, ended}
+use Rattle.spec_check.proofs.lists.refuse_values.Goals as goal
+
+pub loop-definition-preserved : goal.loop-definition-preserved
+loop-definition-preserved c =
+    turn (λ (v : ValueDefTree). value_faults (spec_at c.args.site) c.args.site.class v.declared v.value) value_def_view c.args.definitions.now c.loop-definition.definition-index c.definition-item.result
+    (first_in c.loop-definition.refusals) (first_in c.refuse_value.new.refusals) _ c.definition-item.is c.loop-definition-test.true c.in_ok-refuse_value.ensures c.loop-definition.invariant
+
+pub returns : goal.returns
+returns c =
+    ended (λ (v : ValueDefTree). value_faults (spec_at c.args.site) c.args.site.class v.declared v.value) value_def_view c.args.definitions.now c.loop-definition.definition-index (first_in c.loop-definition.refusals) _
+    (omega (arith, c.loop-definition-test.false)) c.loop-definition.invariant

@@ -1,0 +1,4 @@
+mod Begun
+mod Listed
+mod Viewed
+mod Views

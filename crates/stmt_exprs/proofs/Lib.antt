@@ -1,0 +1,4 @@
+mod Behinds
+mod Bracketed
+mod Onward
+mod Wanted

@@ -1,0 +1,4 @@
+pub mod Below
+pub mod Meant
+pub mod Parts
+pub mod Steps

@@ -1,0 +1,14 @@
+use Rattle.std.proofs.Common.{◌≡◌, map, drop}
+use Rattle.vdm_tree.specs.StmtView.{assignment_view}
+use Rattle.class_checks.specs.Results.{first_among}
+use Rattle.spec_checks.specs.Statements.{done}
+use Rattle.spec_checks.specs.Targets.{all_assigned}
+use Rattle.target_steps.specs.Below.check_scopes.specs.Told.{first_in}
+use Rattle.target_steps.specs.Below.check_frames.specs.Meant.{spec_here}
+use Rattle.target_steps.specs.Below.stmt_scopes.specs.Standing.{stands_here}
+use Rattle.stmt_targets.proofs.assigned.refuse_assignments.Given as goal
+
+abbrev pub invariant-loop-assignment : goal.invariant-loop-assignment
+invariant-loop-assignment l =
+    first_among (first_in l.refusals) (all_assigned (spec_here l.stands.here) (stands_here l.stands) (map assignment_view (drop l.assignment-index l.assignments)) done).refusals
+    ≡ first_among (first_in l.fn.refusals) (all_assigned (spec_here l.stands.here) (stands_here l.stands) (map assignment_view l.assignments) done).refusals

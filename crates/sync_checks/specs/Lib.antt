@@ -1,0 +1,4 @@
+pub mod Below
+pub mod Numbers
+pub mod Releases
+pub mod Threads
