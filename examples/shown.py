@@ -354,7 +354,10 @@ BLOCKS = {
     "Operations": lambda nodes, where: [f" operations{at(where)}", *((operation_def, it) for it in nodes)],
 }
 block = by_name(BLOCKS)
-TYPES = {"Nat": lambda where: [f" : nat{at(where)}"]}
+TYPES = {
+    it: lambda where, word=it.lower(): [f" : {word}{at(where)}"]
+    for it in ("Nat", "Nat1", "Int", "Bool", "Char")
+}
 type_expr = by_name(TYPES)
 
 

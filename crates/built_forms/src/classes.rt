@@ -2,12 +2,12 @@
 
 ghost use Rattle.std.specs.Prelude.{◌≡◌, map};
 ghost use Rattle.vdm_kinds.specs.declared.name_at.NameAt.{NameAt};
-ghost use Rattle.text_phases.specs.Built.{block_place, unbuilt_in_rest, unbuilt_behind, unbuilt_in_blocks, unbuilt_in_superclasses, unbuilt_in_class, unbuilt_in_classes, unbuilt_in_spec};
-ghost use Rattle.vdm_tree.specs.ClassView.{spec_view, class_view, block_view};
+ghost use Rattle.text_phases.specs.Built.{block_place, unbuilt_in_rest, unbuilt_behind, unbuilt_in_blocks, unbuilt_in_superclasses, unbuilt_in_class, unbuilt_in_classes};
+ghost use Rattle.vdm_tree.specs.ClassView.{class_view, block_view};
 
 use crate::members::{unbuilt_in_items, unbuilt_in_operations};
 use vdm_kinds::{Name, NameAt, Place};
-use vdm_tree::{Block, ClassDef, Spec};
+use vdm_tree::{Block, ClassDef};
 
 fn block_place(block: &Block) -> Place
     ensures { result ≡ block_place (block_view block.now) }
@@ -67,8 +67,9 @@ fn unbuilt_in_class(class: &ClassDef) -> Option<Place>
     unbuilt_in_superclasses(&class.superclasses).or(unbuilt_in_blocks(class.name, &class.blocks))
 }
 
-/// No class is built but the first.
-fn unbuilt_in_classes(classes: &[ClassDef]) -> Option<Place>
+/// Where the first form of classes stands, in text order, that has no meaning so far; nothing where all are built. No class is built but
+/// the first.
+pub(crate) fn unbuilt_in_classes(classes: &[ClassDef]) -> Option<Place>
     ensures { result ≡ unbuilt_in_classes (map class_view classes.now) }
 {
     match classes {
@@ -76,11 +77,4 @@ fn unbuilt_in_classes(classes: &[ClassDef]) -> Option<Place>
         [class] => unbuilt_in_class(class),
         [class, other, ..] => unbuilt_in_class(class).or(Some(other.place)),
     }
-}
-
-/// Where the first form of a specification stands, in text order, that has no meaning so far; nothing where all are built.
-pub(crate) fn unbuilt_in_spec(spec: &Spec) -> Option<Place>
-    ensures { result ≡ unbuilt_in_spec (spec_view spec.now) }
-{
-    unbuilt_in_classes(&spec.classes)
 }

@@ -4,8 +4,8 @@
 mod classes;
 mod exprs;
 mod faults;
+mod leaves;
 mod members;
-mod standing;
 mod statements;
 
 pub use faults::unbuilt_fault;

@@ -1,24 +1,17 @@
 // Variables and operations: the first form that is not built.
 
 ghost use Rattle.std.specs.Prelude.{◌≡◌, ◌&&◌, not, map, option_map};
-ghost use Rattle.text_phases.specs.Built.{unless, is_same_place, unbuilt_in_type, lacks_initial, unbuilt_in_initial, unbuilt_in_variable, unbuilt_in_item, unbuilt_in_items, is_public, is_constructor, lacks_body, unbuilt_in_parameters, unbuilt_in_patterns, unbuilt_in_result, unbuilt_in_body, unbuilt_in_condition, unbuilt_in_head, unbuilt_behind_head, unbuilt_in_operation, unbuilt_in_operations};
+ghost use Rattle.text_phases.specs.Built.{unless, is_same_place, unbuilt_in_type, lacks_initial, unbuilt_in_initial, unbuilt_in_variable, unbuilt_in_item, unbuilt_in_items, is_public, is_constructor, lacks_body, unbuilt_in_parameters, unbuilt_in_parameter_patterns, unbuilt_in_result, unbuilt_in_body, unbuilt_in_condition, unbuilt_in_head, unbuilt_behind_head, unbuilt_in_operation, unbuilt_in_operations};
 ghost use Rattle.type_tree.specs.TypeView.{type_view, type_views};
 ghost use Rattle.expr_tree.specs.View.{view_of, boxed_view, pattern_views};
 ghost use Rattle.vdm_tree.specs.StmtView.{boxed_stmt};
 ghost use Rattle.vdm_tree.specs.ClassView.{variable_view, variable_item_view, operation_view, body_view};
 
-use crate::exprs::first_unbuilt;
-use crate::standing::{Standing, expr_first};
+use crate::exprs::unbuilt_in_expr;
+use crate::leaves::{expr_first, unless};
 use crate::statements::{unbuilt_in_block, unbuilt_in_stmt};
 use vdm_kinds::{BasicType, Name, Place};
 use vdm_tree::{Access, Body, Expr, Level, OpDef, Pattern, Stmt, TypeExpr, VarDef, VariableItem};
-
-/// Nothing where it is built, else the place.
-fn unless(built: bool, place: Place) -> Option<Place>
-    ensures { result ≡ unless built place }
-{
-    (!built).then_some(place)
-}
 
 fn is_same_place(a: Place, b: Place) -> bool
     ensures { result ≡ is_same_place a b }
@@ -26,12 +19,13 @@ fn is_same_place(a: Place, b: Place) -> bool
     a.line == b.line && a.column == b.column
 }
 
-/// The one type is `nat`.
+/// The types are `bool`, `nat`, `nat1`, `int` and `char`.
 fn unbuilt_in_type(declared: &TypeExpr) -> Option<Place>
     ensures { result ≡ unbuilt_in_type (type_view declared.now) }
 {
     match declared {
-        TypeExpr::Basic(BasicType::Nat, _) => None,
+        TypeExpr::Basic(BasicType::Token, place) => Some(*place),
+        TypeExpr::Basic(_, _) => None,
         _ => Some(declared.place()),
     }
 }
@@ -42,7 +36,7 @@ fn unbuilt_in_initial(initial: &Option<Box<Expr>>) -> Option<Place>
     ensures { result ≡ unbuilt_in_initial (option_map boxed_view initial.now) }
 {
     match initial {
-        Some(value) => first_unbuilt(Standing::Initial, value),
+        Some(value) => unbuilt_in_expr(value),
         None => None,
     }
 }
@@ -112,8 +106,8 @@ fn unbuilt_in_parameters(parameters: &[TypeExpr]) -> Option<Place>
     Some(parameter.place())
 }
 
-fn unbuilt_in_patterns(patterns: &[Pattern]) -> Option<Place>
-    ensures { result ≡ unbuilt_in_patterns (pattern_views patterns.now) }
+fn unbuilt_in_parameter_patterns(patterns: &[Pattern]) -> Option<Place>
+    ensures { result ≡ unbuilt_in_parameter_patterns (pattern_views patterns.now) }
 {
     let pattern = patterns.first()?;
     Some(pattern.place())
@@ -170,7 +164,7 @@ fn unbuilt_in_head(class: Name, operation: &OpDef) -> Option<Place>
         .or(lacks_body(&operation.body, operation.place))
         .or(unbuilt_in_parameters(&operation.parameters))
         .or(unbuilt_in_result(&operation.result_type))
-        .or(unbuilt_in_patterns(&operation.patterns))
+        .or(unbuilt_in_parameter_patterns(&operation.patterns))
 }
 
 /// Where the first form of its body and its conditions stands that is not built.

@@ -4,7 +4,7 @@ ghost use Rattle.std.specs.Prelude.{◌≡◌, map};
 ghost use Rattle.text_phases.specs.Built.{unbuilt_in_target, unbuilt_in_locals, unbuilt_in_stmt, unbuilt_in_stmts, unbuilt_in_return, unbuilt_to_return, unbuilt_in_block, step_place, or_behind};
 ghost use Rattle.vdm_tree.specs.StmtView.{stmt_view, stmt_views, stmt_trees, target_view, target_step_view, dcl_view};
 
-use crate::exprs::{unbuilt_in_call, unbuilt_in_sum};
+use crate::exprs::{unbuilt_in_call, unbuilt_in_expr};
 use vdm_kinds::Place;
 use vdm_tree::{Dcl, Stmt, Target, TargetStep};
 
@@ -42,7 +42,7 @@ pub(crate) fn unbuilt_in_stmt(statement: &Stmt) -> Option<Place>
     ensures { result ≡ unbuilt_in_stmt (stmt_view statement.now) }
 {
     match statement {
-        Stmt::Assign(target, value, _) => unbuilt_in_target(target).or(unbuilt_in_sum(value)),
+        Stmt::Assign(target, value, _) => unbuilt_in_target(target).or(unbuilt_in_expr(value)),
         Stmt::Call(application, _) => unbuilt_in_call(application),
         Stmt::Block(locals, statements, _) => {
             if let Some(place) = unbuilt_in_locals(locals) {
@@ -76,7 +76,7 @@ fn unbuilt_in_return(statement: &Stmt) -> Option<Place>
     ensures { result ≡ unbuilt_in_return (stmt_view statement.now) }
 {
     match statement {
-        Stmt::Return(Some(value), _) => unbuilt_in_sum(value),
+        Stmt::Return(Some(value), _) => unbuilt_in_expr(value),
         _ => Some(statement.place()),
     }
 }

@@ -1,4 +1,6 @@
+pub mod Nothing
+pub mod Lists
+pub mod PartsBuilt
+pub mod Exprs
+pub mod Stmts
 pub mod Plans
-pub mod Sums
-pub mod Bodies
-pub mod Commands

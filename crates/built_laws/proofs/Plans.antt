@@ -1,81 +1,131 @@
--- What plans are not, and what is found.
-use Rattle.std.proofs.Common.{◌≡◌, Bool, true, false, ◌||◌, if◌then◌else◌, List, [], ◌∷◌, map, Option, Some, None, refl, ap, sym, ◌∙◌, true≢false}
-use Rattle.std.specs.List.{list_any, find}
-use Rattle.std.proofs.lemmas.Option.{none-some}
+-- What does nothing is undefined.
+use Rattle.std.proofs.Common.{◌≡◌, pos, Bool, true, false, List, [], ◌∷◌, Option, Some, None, refl, true≢false}
+use Rattle.vdm_kinds.specs.declared.basic_type.BasicType.TheVariants.{Bool as Truth, Nat, Nat1, Int, Char, Token}
 use Rattle.vdm_kinds.specs.declared.place.Place.{Place}
-use Rattle.vdm_kinds.specs.declared.run_fault.RunFault.{RunFault}
 use Rattle.vdm_kinds.specs.declared.run_fault.RunFault.TheVariants.{TypeFault, Undefined}
-use Rattle.plans.specs.Plans.{fail, ask}
-use Rattle.run_journal.specs.declared.answer.Answer.{Answer}
-use Rattle.run_journal.specs.declared.question.Question.{Question}
-use Rattle.vdm_meaning.specs.Faults.{fault_at}
-use Rattle.vdm_meaning.specs.Tasks.{Code}
-use Rattle.text_phases.specs.Built.{or_behind}
-use Rattle.built_laws.specs.Known.{unknown_unless}
-use Rattle.built_laws.specs.Meant.{IsNot}
+use Rattle.abstract_syntax.specs.Types.{TypeTree, basic_type}
+use Rattle.abstract_syntax.specs.Values.{ValueTree, boolean, number, character}
+use Rattle.abstract_syntax.specs.Expressions.{
+  ExprTree,
+  literal,
+  named,
+  undefined,
+  bracketed,
+  prefixed,
+  joined,
+  set_enumeration,
+  set_range,
+  set_comprehension,
+  empty_map,
+  map_enumeration,
+  map_comprehension,
+  sequence_enumeration,
+  sequence_comprehension,
+  make_tuple,
+  make_token,
+  create,
+  apply,
+  subsequence,
+  select_part,
+  let_in,
+  let_be,
+  def_in,
+  if_else,
+  cases_of,
+  for_all,
+  exists_some,
+  exists_one,
+  iota_of,
+  no_exprs,
+  one_expr,
+  expr_place,
+}
+use Rattle.abstract_syntax.specs.Statements.{TargetTree, variable, variable_of_class, StmtTree, assign, call, block, returns, stmt_place}
+use Rattle.abstract_syntax.specs.Classes.{SpecTree}
+use Rattle.node_meaning.specs.Envs.{Locals, Here}
+use Rattle.node_meaning.specs.Expressions.{expr_plan}
+use Rattle.node_meaning.specs.Needs.{Setting}
+use Rattle.node_meaning.specs.Statements.{assigned, stmt_plan}
+use Rattle.node_meaning.specs.TaskPlans.{bare_call}
+use Rattle.node_meaning.specs.Tasks.{fault}
+use Rattle.node_meaning.specs.Types.{fits}
+use Rattle.text_phases.specs.Built.{unbuilt_in_type}
+use Rattle.built_laws.specs.Meant.{has_plan}
+use Rattle.built_laws.specs.MeantStmts.{does_something, is_whole_variable, is_application}
+use Rattle.built_laws.proofs.Nothing.{told-none}
 
--- ---- the first of two places
+not_so : {A : Type 0} → true ≡ false → A
+not_so h = absurd (true≢false h)
 
-pub or_none-first : {A : Type 0} (a b : Option A) → or_behind a b ≡ None → a ≡ None
-or_none-first None b h = refl
-or_none-first (Some x) b h = h
+pub no_plan : (setting : Setting) (here : Here) (locals : Locals) (tree : ExprTree) → has_plan tree ≡ false
+    → expr_plan setting here locals tree ≡ fault Undefined (expr_place tree)
+no_plan setting here locals (literal value place) h = not_so h
+no_plan setting here locals (named name place) h = not_so h
+no_plan setting here locals (undefined place) h = not_so h
+no_plan setting here locals (bracketed inner place) h = not_so h
+no_plan setting here locals (prefixed sign operand place) h = not_so h
+no_plan setting here locals (joined left sign right place) h = not_so h
+no_plan setting here locals (set_enumeration elements place) h = not_so h
+no_plan setting here locals (set_range first last place) h = not_so h
+no_plan setting here locals (set_comprehension element binds condition place) h = not_so h
+no_plan setting here locals (empty_map place) h = not_so h
+no_plan setting here locals (map_enumeration pairs place) h = not_so h
+no_plan setting here locals (map_comprehension key value binds condition place) h = not_so h
+no_plan setting here locals (sequence_enumeration items place) h = not_so h
+no_plan setting here locals (sequence_comprehension item pattern set condition place) h = not_so h
+no_plan setting here locals (make_tuple elements place) h = not_so h
+no_plan setting here locals (make_token inner place) h = not_so h
+no_plan setting here locals (create class class_place no_exprs place) h = not_so h
+no_plan setting here locals (create class class_place (one_expr argument arguments) place) h = refl
+no_plan setting here locals (apply head arguments place) h = not_so h
+no_plan setting here locals (subsequence target first last place) h = not_so h
+no_plan setting here locals (select_part target n place) h = not_so h
+no_plan setting here locals (let_in definitions body place) h = not_so h
+no_plan setting here locals (let_be bind condition body place) h = not_so h
+no_plan setting here locals (def_in pattern value body place) h = not_so h
+no_plan setting here locals (if_else condition value elseifs otherwise place) h = not_so h
+no_plan setting here locals (cases_of subject cases others place) h = not_so h
+no_plan setting here locals (for_all binds condition place) h = not_so h
+no_plan setting here locals (exists_some binds condition place) h = not_so h
+no_plan setting here locals (exists_one bind condition place) h = not_so h
+no_plan setting here locals (iota_of bind condition place) h = not_so h
+no_plan setting here locals tree h = refl
 
-pub or_none-second : {A : Type 0} (a b : Option A) → or_behind a b ≡ None → b ≡ None
-or_none-second None b h = h
-or_none-second (Some x) b h = absurd (none-some x (sym h))
+pub nothing_done : (spec : SpecTree) (here : Here) (locals : Locals) (statement : StmtTree) → does_something statement ≡ false
+    → stmt_plan spec here locals statement ≡ fault Undefined (stmt_place statement)
+nothing_done spec here locals (assign target value place) h = not_so h
+nothing_done spec here locals (call application place) h = not_so h
+nothing_done spec here locals (block dcls statements place) h = not_so h
+nothing_done spec here locals (returns value place) h = not_so h
+nothing_done spec here locals statement h = refl
 
--- what is told is not nothing
-pub told-none : {A B : Type 0} (x : A) → Some x ≡ None → B
-told-none x h = absurd (none-some x (sym h))
+pub not_written : (spec : SpecTree) (here : Here) (target : TargetTree) (place : Place) (v : ValueTree) (locals : Locals)
+    → is_whole_variable target ≡ false → assigned spec here target place v locals ≡ fault Undefined place
+not_written spec here (variable name [] name_place) place v locals h = not_so h
+not_written spec here (variable name (step ∷ steps) name_place) place v locals h = refl
+not_written spec here (variable_of_class class name name_place steps class_place) place v locals h = refl
 
-pub told-behind : {A B : Type 0} (a : Option A) (x : A) → or_behind a (Some x) ≡ None → B
-told-behind a x h = told-none x (or_none-second a (Some x) h)
+pub not_called : (setting : Setting) (here : Here) (locals : Locals) (tree : ExprTree) → is_application tree ≡ false
+    → bare_call setting here locals tree ≡ fault TypeFault (expr_place tree)
+not_called setting here locals (apply head arguments place) h = not_so h
+not_called setting here locals tree h = refl
 
-pub unknown-none : (known : Bool) (place : Place) → unknown_unless known place ≡ None → known ≡ true
-unknown-none true place h = refl
-unknown-none false place h = told-none _ h
+-- ---- types
 
--- ---- plans
+pub takes_some : (declared : TypeTree) → unbuilt_in_type declared ≡ None → (v : ValueTree) × (fits declared v ≡ true)
+takes_some (basic_type Truth place) h = (boolean true, refl)
+takes_some (basic_type Nat place) h = (number (pos 0), refl)
+takes_some (basic_type Nat1 place) h = (number (pos 1), refl)
+takes_some (basic_type Int place) h = (number (pos 0), refl)
+takes_some (basic_type Char place) h = (character 97, refl)
+takes_some (basic_type Token place) h = told-none _ h
+takes_some declared h = told-none _ h
 
-abbrev pub is_fail : Code → Bool
-is_fail (fail f) = true
-is_fail _ = false
-
--- code that does not fail is no fault
-pub not-fail : (code : Code) (fault : RunFault) (place : Place) → is_fail code ≡ false → IsNot fault place code
-not-fail code fault place passes is = true≢false (sym (ap is_fail is) ∙ passes)
-
-abbrev pub is_undefined_fault : RunFault → Bool
-is_undefined_fault Undefined = true
-is_undefined_fault _ = false
-
-abbrev pub is_undefined : Code → Bool
-is_undefined (fail f) = is_undefined_fault f.fault
-is_undefined _ = false
-
-pub not-undefined : (code : Code) (place : Place) → is_undefined code ≡ false → IsNot Undefined place code
-not-undefined code place passes is = true≢false (sym (ap is_undefined is) ∙ passes)
-
--- a test of a type asks, or is a fault of the type
-pub tested : (does : Bool) (question : Question) (further : Answer → Code) (place : Place)
-    → is_undefined (if does then ask question further else fail (fault_at TypeFault place)) ≡ false
-tested true question further place = refl
-tested false question further place = refl
-
--- ---- what is found
-
-found-next : {A : Type 0} (p : A → Bool) (x : A) (xs : List A) (passes : Bool) → p x ≡ passes → (passes || list_any p xs) ≡ true
-    → (list_any p xs ≡ true → (y : A) × (find p xs ≡ Some y))
-    → (y : A) × (find p (x ∷ xs) ≡ Some y)
-found-next p x xs true is h others = (x, ap (λ (b : Bool). if b then Some x else find p xs) is)
-found-next p x xs false is h others =
-    let rest = others h in
-    (rest.0, ap (λ (b : Bool). if b then Some x else find p xs) is ∙ rest.1)
-
-pub found : {A : Type 0} (p : A → Bool) (xs : List A) → list_any p xs ≡ true → (x : A) × (find p xs ≡ Some x)
-found p [] h = absurd (true≢false (sym h))
-found p (x ∷ xs) h = found-next p x xs (p x) refl h (found p xs)
-
-pub any-mapped : {A B : Type 0} (f : A → B) (p : B → Bool) (xs : List A) → list_any p (map f xs) ≡ list_any (λ x. p (f x)) xs
-any-mapped f p [] = refl
-any-mapped f p (x ∷ xs) = ap (λ (b : Bool). p (f x) || b) (any-mapped f p xs)
+pub takes_none : (declared : TypeTree) (place : Place) (v : ValueTree) → unbuilt_in_type declared ≡ Some place → fits declared v ≡ false
+takes_none (basic_type Truth at) place v h = absurd (cc)
+takes_none (basic_type Nat at) place v h = absurd (cc)
+takes_none (basic_type Nat1 at) place v h = absurd (cc)
+takes_none (basic_type Int at) place v h = absurd (cc)
+takes_none (basic_type Char at) place v h = absurd (cc)
+takes_none (basic_type Token at) place v h = refl
+takes_none declared place v h = refl

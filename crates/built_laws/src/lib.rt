@@ -1,9 +1,9 @@
-//! What is built has a meaning.
+//! What is built has a meaning, and what has none is not built.
 #![tactic(auto)]
 
 mod laws;
 
 pub use laws::{
-    built_bodies_have_meaning, built_commands_have_meaning, built_statements_have_meaning,
-    built_sums_have_meaning, built_variables_have_meaning,
+    built_bodies_have_meaning, built_expressions_have_meaning, built_types_take_values,
+    built_variables_have_meaning, others_are_undefined,
 };

@@ -1,75 +1,130 @@
 // Calls of operations.
 
-ghost use Rattle.std.specs.Prelude.{◌≡◌, ◌≤◌, option_map, None};
+ghost use Rattle.std.specs.Prelude.{◌≡◌, ◌≤◌, option_map, None, Some};
 ghost use Rattle.std.specs.Borrow.{Bor};
 ghost use Rattle.abstract_syntax.specs.Classes.{SpecTree};
-ghost use Rattle.abstract_syntax.specs.Expressions.{named, no_exprs};
-ghost use Rattle.vdm_meaning.specs.Calls.{call_plan, call_found, call_on, activated, begun, ended, left_by, tested, given};
-ghost use Rattle.vdm_meaning.specs.TaskPlans.{bare_call};
-ghost use Rattle.expr_tree.specs.View.{view_of, expr_trees, views_of};
-ghost use Rattle.vdm_kinds.specs.declared.place.Place.{Place};
+ghost use Rattle.node_meaning.specs.Calls.{called as called_plan, activated as activated_plan, begun as begun_plan, ended as ended_plan, finished as finished_plan, tested as tested_result};
+ghost use Rattle.node_meaning.specs.Envs.{Locals, inside as inside_of};
 ghost use Rattle.type_tree.specs.TypeView.{type_view};
 ghost use Rattle.vdm_tree.specs.ClassView.{operation_view};
 ghost use Rattle.vdm_tree.specs.declared.class_def.OpDef.{OpDef};
-ghost use Rattle.class_table.specs.Tables.{class_of, table_spec};
-ghost use Rattle.step_data.specs.Parts.{wanted_of, env_of, flow_of, call_class, call_operation};
-ghost use Rattle.step_data.specs.Steps.{code_of, height};
+ghost use Rattle.eval_data.specs.Parts.{here_of, flow_of};
+ghost use Rattle.step_data.specs.Parts.{call_operation};
+ghost use Rattle.step_data.specs.Actions.{action_code, busy, height};
 
-use class_table::{Members, Table};
+use eval_data::{Flow, Here};
 use run_journal::Answer;
-use step_data::{Asking, Call, Env, Flow, Frame, Step, Task, Use, Wanted, fits};
-use vdm_kinds::{Name, Place, RunFault};
-use vdm_tree::{Body, Expr, OpDef, TypeExpr};
-use vdm_values::{Node, Slot, Value};
+use std::alloc::Global;
+use std::mem;
+use step_data::{Action, Asking, Call, Task, Waiting, fits};
+use vdm_kinds::{Name, OpRef, Place, RunFault};
+use vdm_tree::{Body, OpDef, TypeExpr};
+use vdm_values::{Slot, Value};
+
+/// A call is asked for. What is no operation of its class is a type fault at the call.
+pub fn called<'t>(
+    me: u32,
+    own: Name,
+    op: OpRef,
+    operation: Option<&'t OpDef>,
+    place: Place,
+) -> Action<'t>
+    ensures same { (spec : SpecTree) (locals : Locals) → action_code spec locals result ≡ called_plan me own op (option_map (λ (o : Bor OpDef). operation_view o.now) operation.entry) place locals }
+    ensures busy { busy result ≤ 0 }
+    ensures falls { height result ≤ 3 }
+{
+    let Some(operation) = operation else {
+        return Action::Fail(RunFault::TypeFault, place);
+    };
+    Action::Ask(Asking::Request(Call {
+        me,
+        own,
+        op,
+        operation,
+        place,
+    }))
+}
 
 /// What follows the activation: the body. A permission that failed is a fault at the call.
-pub fn activated<'t>(call: Call<'t>, answer: Answer) -> Step<'t>
-    ensures same { (spec : SpecTree) → code_of spec result ≡ activated (call_class call.entry) call.entry.me (call_operation call.entry) call.entry.place (wanted_of call.entry.wanted) answer }
+pub fn activated<'t>(
+    alloc: Global,
+    locals: &mut Vec<(Name, Slot)>,
+    call: Call<'t>,
+    answer: Answer,
+) -> Action<'t>
+    ensures same { (spec : SpecTree) → action_code spec locals.new.items result ≡ activated_plan call.entry.me call.entry.own call.entry.op (call_operation call.entry) call.entry.place locals.old.items answer }
     ensures falls { height result ≤ 1 }
 {
     if let Answer::Inner(_) = answer {
-        return Step::Fail(RunFault::GuardFault, call.place);
+        return Action::Fail(RunFault::GuardFault, call.place);
     }
-    begun(call)
+    begun(alloc, locals, call)
 }
 
-/// The body of a call. One that is not there is undefined at the call.
-fn begun<'t>(call: Call<'t>) -> Step<'t>
-    ensures same { (spec : SpecTree) → code_of spec result ≡ begun (call_class call.entry) call.entry.me (call_operation call.entry) call.entry.place (wanted_of call.entry.wanted) (call_operation call.entry).body }
+/// The body of a call, with no locals but its own. One that is not there is undefined at the call.
+fn begun<'t>(alloc: Global, locals: &mut Vec<(Name, Slot)>, call: Call<'t>) -> Action<'t>
+    ensures same { (spec : SpecTree) → action_code spec locals.new.items result ≡ begun_plan call.entry.me call.entry.own call.entry.op (call_operation call.entry).result_type call.entry.place locals.old.items (call_operation call.entry).body }
     ensures falls { height result ≤ 1 }
 {
     match &call.operation.body {
         Body::Written(body) => {
-            let env = Env::Inside(call.me, call.members);
-            Step::Part(Task::Stmt(env, body), Frame::Body(call))
+            let here = inside(call.me, call.own, call.op.class);
+            let saved = mem::replace(locals, Vec::new(alloc));
+            Action::Part(Task::Stmt(here, body), Waiting::Body(call, saved))
         }
-        _ => Step::Fail(RunFault::Undefined, call.place),
+        _ => Action::Fail(RunFault::Undefined, call.place),
     }
 }
 
-/// What follows the body: its result is tested, and the call is to end.
-pub fn ended<'t>(call: Call<'t>, flow: Flow) -> Step<'t>
-    ensures { (spec : SpecTree) → code_of spec result ≡ ended (call_class call.entry) call.entry.me (call_operation call.entry) call.entry.place (wanted_of call.entry.wanted) (flow_of flow) }
+/// Where the body of an operation of a class stands, on an object and its class.
+fn inside<'t>(me: u32, own: Name, class: Name) -> Here<'t>
+    ensures { here_of result ≡ inside_of me own class }
 {
-    match tested(&call.operation.result_type, left_by(flow)) {
-        Ok(slot) => Step::Ask(Asking::Finish(call, slot)),
-        Err(fault) => Step::Fail(fault, call.place),
+    Here {
+        scope: Some(class),
+        own: Some(own),
+        me: Some(me),
+        held: None,
+        depth: 0,
     }
 }
 
-/// What a body left: the value that it returned, or none.
-fn left_by(flow: Flow) -> Slot
-    ensures { result ≡ left_by (flow_of flow) }
+/// What follows the body: its result is tested, and the call is to end; so it is where an exit left it. The locals are the
+/// caller's again.
+pub fn ended<'t>(
+    locals: &mut Vec<(Name, Slot)>,
+    call: Call<'t>,
+    saved: Vec<(Name, Slot)>,
+    flow: Flow,
+) -> Action<'t>
+    ensures falls { height result ≤ 2 }
+    ensures same { (spec : SpecTree) → action_code spec locals.new.items result ≡ ended_plan call.entry.me call.entry.op (call_operation call.entry).result_type call.entry.place saved.items (flow_of flow locals.old.items) }
 {
+    *locals = saved;
     match flow {
-        Flow::Returned(slot) => slot,
-        _ => Slot::Unset,
+        Flow::Gave(_slot) => Action::Fail(RunFault::Undefined, call.place),
+        Flow::Next => finished(call, tested(&call.operation.result_type, Slot::Unset)),
+        Flow::Returned(slot) => finished(call, tested(&call.operation.result_type, slot)),
+        Flow::Exited(value, from) => {
+            Action::Ask(Asking::Finish(call.me, call.op, Flow::Exited(value, from)))
+        }
+    }
+}
+
+/// A fault of the result stands at the call; else the call asks to finish.
+fn finished<'t>(call: Call<'t>, tested: Result<Slot, RunFault>) -> Action<'t>
+    ensures falls { height result ≤ 2 }
+    ensures same { (spec : SpecTree) (locals : Locals) → action_code spec locals result ≡ finished_plan call.entry.me call.entry.op call.entry.place locals tested }
+{
+    match tested {
+        Ok(slot) => Action::Ask(Asking::Finish(call.me, call.op, Flow::Gave(slot))),
+        Err(fault) => Action::Fail(fault, call.place),
     }
 }
 
 /// A result against the declared type: a result that is due has to come, and has to fit; else none may come.
 fn tested(declared: &Option<TypeExpr>, slot: Slot) -> Result<Slot, RunFault>
-    ensures { result ≡ tested (option_map type_view declared.now) slot }
+    ensures { result ≡ tested_result (option_map type_view declared.now) slot }
 {
     match declared {
         None => untyped(slot),
@@ -78,7 +133,7 @@ fn tested(declared: &Option<TypeExpr>, slot: Slot) -> Result<Slot, RunFault>
 }
 
 fn untyped(slot: Slot) -> Result<Slot, RunFault>
-    ensures { result ≡ tested None slot }
+    ensures { result ≡ tested_result None slot }
 {
     match slot {
         Slot::Unset => Ok(Slot::Unset),
@@ -87,7 +142,7 @@ fn untyped(slot: Slot) -> Result<Slot, RunFault>
 }
 
 fn typed(declared: &TypeExpr, slot: Slot) -> Result<Slot, RunFault>
-    ensures { result ≡ tested (Some (type_view declared.now)) slot }
+    ensures { result ≡ tested_result (Some (type_view declared.now)) slot }
 {
     match slot {
         Slot::Unset => Err(RunFault::NoReturn),
@@ -96,118 +151,11 @@ fn typed(declared: &TypeExpr, slot: Slot) -> Result<Slot, RunFault>
 }
 
 fn tested_value(declared: &TypeExpr, value: Value) -> Result<Slot, RunFault>
-    ensures { result ≡ tested (Some (type_view declared.now)) (Slot.Held value) }
+    ensures { result ≡ tested_result (Some (type_view declared.now)) (Slot.Held value) }
 {
     if fits(declared, &value) {
         Ok(Slot::Held(value))
     } else {
         Err(RunFault::TypeFault)
     }
-}
-
-/// What a call gives: where a value is wanted and none came, that is a fault at the call.
-pub fn given<'t>(wanted: Wanted, place: Place, slot: Slot) -> Step<'t>
-    ensures same { (spec : SpecTree) → code_of spec result ≡ given (wanted_of wanted) place slot }
-    ensures falls { height result ≤ 1 }
-{
-    match (wanted, slot) {
-        (Wanted::Nothing, slot) => Step::Finish(Flow::Gave(slot)),
-        (Wanted::Value, Slot::Held(value)) => Step::value(value),
-        (Wanted::Value, Slot::Unset) => Step::Fail(RunFault::NoReturn, place),
-    }
-}
-
-/// A call whose value is not wanted: only an application is one.
-pub fn bare_call<'t>(env: Env<'t>, tree: &'t Expr) -> Step<'t>
-    ensures { (spec : SpecTree) → code_of spec result ≡ bare_call spec (env_of env.entry) (view_of tree.now) }
-{
-    match tree {
-        Expr::Apply(head, arguments, place) => {
-            application(env, head, arguments.as_slice(), *place, Wanted::Nothing)
-        }
-        _ => Step::Fail(RunFault::TypeFault, tree.place()),
-    }
-}
-
-/// What an application does. So far no operation has a parameter.
-pub fn application<'t>(
-    env: Env<'t>,
-    head: &'t Expr,
-    arguments: &'t [Expr],
-    place: Place,
-    wanted: Wanted,
-) -> Step<'t>
-    ensures { (spec : SpecTree) → code_of spec result ≡ call_plan spec (env_of env.entry) (view_of head.now) (expr_trees (views_of arguments.now)) place (wanted_of wanted) }
-{
-    match arguments {
-        [] => call_of(env, head, place, wanted),
-        [_, ..] => Step::Fail(RunFault::TypeFault, place),
-    }
-}
-
-/// What an application without arguments does, by what is applied.
-fn call_of<'t>(env: Env<'t>, head: &'t Expr, place: Place, wanted: Wanted) -> Step<'t>
-    ensures { (spec : SpecTree) → code_of spec result ≡ call_plan spec (env_of env.entry) (view_of head.now) no_exprs place (wanted_of wanted) }
-{
-    match head {
-        Expr::Name(name, _) => own_call(env, *name, place, wanted),
-        Expr::Select(target, name, _, _) => Step::Part(
-            Task::Expr(env, target),
-            Frame::With(Use::CallOn(*name, wanted), place),
-        ),
-        _ => Step::Fail(RunFault::TypeFault, place),
-    }
-}
-
-/// The call of an operation of the object itself.
-fn own_call<'t>(env: Env<'t>, name: Name, place: Place, wanted: Wanted) -> Step<'t>
-    ensures { (spec : SpecTree) (name_place : Place) → code_of spec result ≡ call_plan spec (env_of env.entry) (named name name_place) no_exprs place (wanted_of wanted) }
-{
-    match env {
-        Env::Outside => Step::Fail(RunFault::TypeFault, place),
-        Env::Inside(me, members) => {
-            call_found(me, members, members.operation(name), place, wanted)
-        }
-    }
-}
-
-/// The call of an operation on a value, which has to be an object.
-pub fn call_on<'t>(
-    table: &'t Table<'t>,
-    name: Name,
-    place: Place,
-    wanted: Wanted,
-    value: Value,
-) -> Step<'t>
-    ensures { code_of (table_spec table.now) result ≡ call_on (table_spec table.now) name place (wanted_of wanted) value }
-{
-    let Node::Object { number, class } = value.node() else {
-        return Step::Fail(RunFault::TypeFault, place);
-    };
-    let Some(members) = table.class_named(*class) else {
-        return Step::Fail(RunFault::TypeFault, place);
-    };
-    call_found(*number, members, members.operation(name), place, wanted)
-}
-
-/// A call is asked for. On what has no such operation it is a type fault at the call.
-fn call_found<'t>(
-    me: u32,
-    members: &'t Members<'t>,
-    operation: Option<&'t OpDef>,
-    place: Place,
-    wanted: Wanted,
-) -> Step<'t>
-    ensures { (spec : SpecTree) → code_of spec result ≡ call_found (class_of members.now) me (option_map (λ (o : Bor OpDef). operation_view o.now) operation.entry) place (wanted_of wanted) }
-{
-    let Some(operation) = operation else {
-        return Step::Fail(RunFault::TypeFault, place);
-    };
-    Step::Ask(Asking::Request(Call {
-        members,
-        me,
-        operation,
-        place,
-        wanted,
-    }))
 }

@@ -1,95 +1,211 @@
 // New objects.
 
-ghost use Rattle.std.specs.Prelude.{◌≡◌, ◌≤◌, IfOk, option_map};
+ghost use Rattle.std.specs.Prelude.{◌≡◌, ◌≤◌, [], IfOk, option_map, Box as BoxOf};
 ghost use Rattle.std.specs.Borrow.{Bor};
+ghost use Rattle.std.specs.declared.alloc.Global.{Global};
 ghost use Rattle.abstract_syntax.specs.Classes.{SpecTree};
-ghost use Rattle.vdm_meaning.specs.Objects.{new_of, initialise, with_slot, make_object, created};
-ghost use Rattle.expr_tree.specs.View.{expr_trees, views_of};
-ghost use Rattle.class_table.specs.declared.members.Members.{Members};
-ghost use Rattle.class_table.specs.Tables.{class_of, variables_from};
-ghost use Rattle.step_data.specs.Steps.{code_of, height};
+ghost use Rattle.node_meaning.specs.Envs.{Locals, initialising as initialising_in};
+ghost use Rattle.node_meaning.specs.Needs.{questions_of};
+ghost use Rattle.expr_tree.specs.View.{boxed_view};
+ghost use Rattle.expr_tree.specs.declared.expr.Expr.{Expr as ExprOf};
+ghost use Rattle.node_meaning.specs.Objects.{initial_of as initial_in, created as created_plan, make_object as make_object_plan};
+ghost use Rattle.node_meaning.specs.Tasks.{creates};
+ghost use Rattle.node_meaning.specs.Types.{all_fit as all_slots_fit, slot_fits as fits_slot};
+ghost use Rattle.node_meaning.specs.Names.{variable_definition};
+ghost use Rattle.spec_table.specs.Tables.{table_spec};
+ghost use Rattle.eval_data.specs.Parts.{here_of, flow_of};
+ghost use Rattle.step_data.specs.Actions.{action_code, busy, height, initialisers, initial_of as initial_plan};
 
-use class_table::Members;
+use eval_data::{Flow, Here};
 use run_journal::Answer;
+use spec_table::ClassTable;
 use std::alloc::Global;
-use step_data::{Asking, Env, Frame, Step, Task, Use, all_fit};
-use vdm_kinds::{Name, OutOfMemory, Place, RunFault};
+use std::mem;
+use step_data::{Action, Asking, Making, Task, Waiting, fits};
+use vdm_kinds::{Name, OutOfMemory, Place, RunFault, VarRef};
 use vdm_tree::Expr;
-use vdm_values::{Node, Slot, SlotList, Value};
+use vdm_values::{Node, Slot, SlotList, Value, ValueList};
 
-/// A new object of a class of the specification. So far no class has a constructor.
+/// A new object. So far no class has a constructor.
 pub fn new_object<'t>(
     alloc: Global,
-    members: Option<&'t Members<'t>>,
-    arguments: &'t [Expr],
+    table: &'t ClassTable,
+    locals: &mut Vec<(Name, Slot)>,
+    class: Name,
+    args: ValueList,
     place: Place,
-) -> Result<Step<'t>, OutOfMemory>
-    ensures { IfOk result (λ s. (spec : SpecTree) → code_of spec s ≡ new_of (option_map (λ (m : Bor Members). class_of m.now) members.entry) (expr_trees (views_of arguments.now)) place) }
+) -> Result<Action<'t>, OutOfMemory>
+    ensures same { IfOk result (λ a. action_code (table_spec table.now) locals.new.items a ≡ questions_of (table_spec table.now) (creates class args) place locals.old.items) }
+    ensures busy { IfOk result (λ a. busy a ≤ 1) }
+    ensures falls { IfOk result (λ a. height a ≤ 3) }
 {
-    let Some(members) = members else {
-        return Ok(Step::Fail(RunFault::Undefined, place));
+    match args.as_slice() {
+        [] => begun(alloc, table, locals, class, place),
+        [_, ..] => Ok(Action::Fail(RunFault::Undefined, place)),
+    }
+}
+
+/// The first initialiser, with the locals put aside.
+fn begun<'t>(
+    alloc: Global,
+    table: &'t ClassTable,
+    locals: &mut Vec<(Name, Slot)>,
+    class: Name,
+    place: Place,
+) -> Result<Action<'t>, OutOfMemory>
+    ensures same { IfOk result (λ a. action_code (table_spec table.now) locals.new.items a ≡ questions_of (table_spec table.now) (creates class []) place locals.old.items) }
+    ensures busy { IfOk result (λ a. busy a ≤ 1) }
+    ensures falls { IfOk result (λ a. height a ≤ 3) }
+{
+    let Some(_) = table.number(class) else {
+        return Ok(Action::Fail(RunFault::Undefined, place));
     };
-    match arguments {
-        [] => initialise(members, 0, Vec::new(alloc), place),
-        [_, ..] => Ok(Step::Fail(RunFault::Undefined, place)),
-    }
+    let variables = table.layout(class);
+    let making = Making {
+        class,
+        place,
+        variables,
+        left: variables,
+        slots: Vec::new(alloc),
+        saved: mem::replace(locals, Vec::new(alloc)),
+    };
+    initialise(alloc, table, locals, making)
 }
 
-/// The initialisers of the variables from a number on, behind the slots that were made.
+/// The initialisers that are left, behind the slots that were made.
+#[tactic(auto, using(crate::proofs::Fitting::next_initialiser))]
 fn initialise<'t>(
-    members: &'t Members<'t>,
-    next: usize,
-    slots: Vec<Slot>,
-    place: Place,
-) -> Result<Step<'t>, OutOfMemory>
-    ensures { IfOk result (λ s. (spec : SpecTree) → code_of spec s ≡ initialise (class_of members.now) place (variables_from members.now next) slots.items) }
+    alloc: Global,
+    table: &'t ClassTable,
+    locals: &mut Vec<(Name, Slot)>,
+    making: Making<'t>,
+) -> Result<Action<'t>, OutOfMemory>
+    ensures same { IfOk result (λ a. action_code (table_spec table.now) locals.new.items a ≡ initialisers (table_spec table.now) making.entry) }
+    ensures busy { IfOk result (λ a. busy a ≤ 1) }
+    ensures falls { IfOk result (λ a. height a ≤ 3) }
 {
-    let mut next = next;
-    let mut slots = slots;
-    while let Some(variable) = members.variable_at(next) {
-        next += 1;
-        if let Some(initial) = &variable.initial {
-            let used = Use::NextSlot(members, next, slots);
-            return Ok(Step::Part(Task::Expr(Env::Outside, initial), Frame::With(used, place)));
+    let mut making = making;
+    while let Some((var, left)) = making.left.split_first() {
+        making.left = left;
+        if let Some(initial) = initial_of(table, *var) {
+            *locals = Vec::new(alloc);
+            let task = Task::Expr(initialising(var.class), initial);
+            return Ok(Action::Part(task, Waiting::Initial(Box::new(alloc, making)?)));
         }
-        slots.push(Slot::Unset)?;
+        making.slots.push(Slot::Unset)?;
     }
-    Ok(make_object(members, slots, place))
+    Ok(make_object(table, locals, making))
 }
 
-/// The slot of one variable, and then the initialisers of those behind it.
-pub fn with_slot<'t>(
-    members: &'t Members<'t>,
-    next: usize,
-    slots: Vec<Slot>,
-    place: Place,
-    value: Value,
-) -> Result<Step<'t>, OutOfMemory>
-    ensures { IfOk result (λ s. (spec : SpecTree) → code_of spec s ≡ with_slot (initialise (class_of members.now) place (variables_from members.now next)) slots.items value) }
+/// The initialiser of a variable.
+fn initial_of(table: &ClassTable, var: VarRef) -> Option<&Box<Expr>>
+    ensures { option_map (λ (e : Bor (BoxOf ExprOf Global)). boxed_view e.now) result ≡ initial_in (variable_definition (table_spec table.now) var) }
 {
-    let mut slots = slots;
-    slots.push(Slot::Held(value))?;
-    initialise(members, next, slots, place)
+    match table.variable(&var) {
+        Some(definition) => match &definition.initial {
+            Some(initial) => Some(initial),
+            None => None,
+        },
+        None => None,
+    }
+}
+
+/// Where the initialisers of a class stand.
+fn initialising<'t>(class: Name) -> Here<'t>
+    ensures { here_of result ≡ initialising_in class }
+{
+    Here {
+        scope: Some(class),
+        own: None,
+        me: None,
+        held: None,
+        depth: 0,
+    }
+}
+
+/// What an initialiser gives, and then those behind it.
+pub fn initialised<'t>(
+    alloc: Global,
+    table: &'t ClassTable,
+    locals: &mut Vec<(Name, Slot)>,
+    making: Box<Making<'t>>,
+    flow: Flow,
+) -> Result<Action<'t>, OutOfMemory>
+    ensures falls { IfOk result (λ a. height a ≤ 3) }
+    ensures same { IfOk result (λ a. action_code (table_spec table.now) locals.new.items a ≡ initial_plan (table_spec table.now) making.entry.value (flow_of flow locals.old.items)) }
+{
+    let mut making = Box::into_inner(making);
+    match flow {
+        Flow::Gave(Slot::Held(value)) => {
+            making.slots.push(Slot::Held(value))?;
+            initialise(alloc, table, locals, making)
+        }
+        Flow::Gave(Slot::Unset) | Flow::Next => {
+            Ok(Action::Fail(RunFault::Undefined, making.place))
+        }
+        Flow::Returned(_slot) => Ok(Action::Fail(RunFault::Undefined, making.place)),
+        Flow::Exited(value, from) => {
+            *locals = making.saved;
+            Ok(Action::Finish(Flow::Exited(value, from)))
+        }
+    }
 }
 
 /// Once all initialisers are evaluated their types are tested, and then the object is asked for.
-fn make_object<'t>(members: &'t Members<'t>, slots: Vec<Slot>, place: Place) -> Step<'t>
-    ensures { (spec : SpecTree) → code_of spec result ≡ make_object (class_of members.now) place slots.items }
+fn make_object<'t>(
+    table: &ClassTable,
+    locals: &mut Vec<(Name, Slot)>,
+    making: Making<'t>,
+) -> Action<'t>
+    ensures same { action_code (table_spec table.now) locals.new.items result ≡ make_object_plan (table_spec table.now) making.entry.class making.entry.place making.entry.saved.items making.entry.variables.now making.entry.slots.items }
+    ensures busy { busy result ≤ 0 }
+    ensures falls { height result ≤ 2 }
 {
-    if !all_fit(members.layout(), &slots) {
-        return Step::Fail(RunFault::TypeFault, place);
+    if !all_fit(table, making.variables, making.slots.as_slice()) {
+        return Action::Fail(RunFault::TypeFault, making.place);
     }
-    let slots = SlotList::from_vec(slots);
-    Step::Ask(Asking::New(members.name(), slots, place))
+    *locals = making.saved;
+    let slots = SlotList::from_vec(making.slots);
+    Action::Ask(Asking::New(making.class, slots, making.place))
+}
+
+/// Whether the types of the variables take what their slots hold.
+fn all_fit(table: &ClassTable, variables: &[VarRef], slots: &[Slot]) -> bool
+    ensures { result ≡ all_slots_fit (table_spec table.now) variables.now slots.now }
+{
+    let mut rest = slots;
+    for variable in variables {
+        let [slot, after @ ..] = rest else {
+            return true;
+        };
+        if !slot_fits(table, *variable, slot) {
+            return false;
+        }
+        rest = after;
+    }
+    true
+}
+
+/// Whether the type of the variable takes what the slot holds, where it holds anything.
+fn slot_fits(table: &ClassTable, variable: VarRef, slot: &Slot) -> bool
+    ensures { result ≡ fits_slot (variable_definition (table_spec table.now) variable) slot.now }
+{
+    match (table.variable(&variable), slot) {
+        (Some(definition), Slot::Held(value)) => fits(&definition.declared, value),
+        _ => true,
+    }
 }
 
 /// The object that was made.
-pub fn created<'t>(class: Name, place: Place, answer: Answer) -> Step<'t>
-    ensures same { (spec : SpecTree) → code_of spec result ≡ created class place answer }
+pub fn created<'t>(class: Name, place: Place, answer: Answer) -> Action<'t>
+    ensures same { (spec : SpecTree) (locals : Locals) → action_code spec locals result ≡ created_plan class place locals answer }
     ensures falls { height result ≤ 1 }
 {
     match answer {
-        Answer::Object(number) => Step::value(Value::new(Node::Object { number, class })),
-        _ => Step::Fail(RunFault::Undefined, place),
+        Answer::Object(number) => {
+            let object = Value::new(Node::Object { number, class });
+            Action::Finish(Flow::Gave(Slot::Held(object)))
+        }
+        _ => Action::Fail(RunFault::Undefined, place),
     }
 }

@@ -60,6 +60,16 @@ impl ClassList {
         self.classes.as_slice()
     }
 
+    /// The classes of the text, in order: all but `IO`.
+    pub fn text_classes(&self) -> &[ClassDef]
+        ensures { map class_view result.now ≡ (spec_of self.now).classes }
+    {
+        match self.classes.as_slice() {
+            [_, classes @ ..] => classes,
+            [] => &[],
+        }
+    }
+
     /// The class of a number.
     pub fn class(&self, k: usize) -> Option<&ClassDef>
         ensures { option_map (λ c. class_view c.now) result ≡ class_at (spec_of self.now) k }

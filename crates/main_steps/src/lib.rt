@@ -1,10 +1,8 @@
-//! What a thread asks, what main does from its class objects to its end, and what stands behind a request.
+//! What a thread asks, and what main does from its class objects to its end.
 #![tactic(auto)]
 
 mod main_code;
 mod question;
-mod request;
 
-pub use main_code::{after_io, start};
+pub use main_code::{ended, make_class_objects};
 pub use question::question_of;
-pub use request::requested;

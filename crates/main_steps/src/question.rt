@@ -1,36 +1,33 @@
 // The question that an asking is.
 
 ghost use Rattle.std.specs.Prelude.{◌≡◌, [], ◌∷◌, IfOk};
-ghost use Rattle.vdm_meaning.specs.Main.{end_slot};
-ghost use Rattle.step_data.specs.Parts.{flow_of};
-ghost use Rattle.step_data.specs.Steps.{question_of};
+ghost use Rattle.step_data.specs.Actions.{question_of};
 
 use run_journal::{Question, Write, WriteList};
 use std::alloc::Global;
-use step_data::{Asking, Flow};
+use step_data::Asking;
 use vdm_kinds::{Name, OutOfMemory, VarRef};
-use vdm_values::{Slot, SlotList, Value};
+use vdm_values::{SlotList, Value};
 
 /// The question that is asked.
 pub fn question_of(alloc: Global, asking: &Asking<'_>) -> Result<Question, OutOfMemory>
     ensures { IfOk result (λ q. q ≡ question_of asking.now) }
 {
     match asking {
-        Asking::IoClass(_, _) => Ok(class_question(alloc, 0, Name::IO)),
-        Asking::TextClass(class, _) => Ok(class_question(alloc, 1, *class)),
+        Asking::Class(object, _, class, _) => Ok(class_question(alloc, *object, *class)),
         Asking::Request(call) => Ok(Question::Req {
             object: call.me,
-            op: call.operation_ref(),
+            op: call.op,
         }),
         Asking::Activation(call) => Ok(Question::Act {
             object: call.me,
-            op: call.operation_ref(),
+            op: call.op,
         }),
-        Asking::Finish(call, _) => Ok(Question::Fin {
-            object: call.me,
-            op: call.operation_ref(),
+        Asking::Finish(me, op, _) => Ok(Question::Fin {
+            object: *me,
+            op: *op,
         }),
-        Asking::Read(me, var, _) => Ok(Question::Read {
+        Asking::Read(me, var) => Ok(Question::Read {
             object: *me,
             var: *var,
         }),
@@ -39,8 +36,8 @@ pub fn question_of(alloc: Global, asking: &Asking<'_>) -> Result<Question, OutOf
             class: *class,
             values: slots.copy(alloc)?,
         }),
-        Asking::End(flow) => Ok(Question::End {
-            value: end_slot(alloc, flow)?,
+        Asking::End(slot) => Ok(Question::End {
+            value: slot.copy(alloc)?,
         }),
     }
 }
@@ -74,14 +71,4 @@ fn write_question(
         object,
         writes: WriteList::from_vec(writes),
     })
-}
-
-/// The slot that main ends with.
-fn end_slot(alloc: Global, flow: &Flow) -> Result<Slot, OutOfMemory>
-    ensures { IfOk result (λ s. s ≡ end_slot (flow_of flow.now)) }
-{
-    match flow {
-        Flow::Gave(slot) | Flow::Returned(slot) => slot.copy(alloc),
-        Flow::Next => Ok(Slot::Unset),
-    }
 }

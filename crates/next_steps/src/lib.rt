@@ -1,11 +1,10 @@
-//! What a thread does next: at a task, behind the answer to an asking, and behind the result of a part.
+//! What a thread does next: at a task, behind the answer to an asking, and behind what came of a part.
 #![tactic(auto)]
 
 mod answered;
-mod expression;
-mod frame;
 mod task;
+mod waiting;
 
 pub use answered::answered_of;
-pub use frame::then_of;
 pub use task::plan_of;
+pub use waiting::then_of;

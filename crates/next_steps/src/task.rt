@@ -1,30 +1,32 @@
-// Which step begins a task.
+// What a task does first.
 
-ghost use Rattle.std.specs.Prelude.{◌≡◌, IfOk};
-ghost use Rattle.vdm_meaning.specs.TaskPlans.{plan_of};
-ghost use Rattle.class_table.specs.Tables.{table_spec};
+ghost use Rattle.std.specs.Prelude.{◌≡◌, ◌≤◌, IfOk};
+ghost use Rattle.node_meaning.specs.TaskPlans.{plan_of};
+ghost use Rattle.spec_table.specs.Tables.{table_spec};
 ghost use Rattle.step_data.specs.Parts.{task_of};
-ghost use Rattle.step_data.specs.Steps.{code_of};
+ghost use Rattle.step_data.specs.Actions.{action_code, height, of_thread};
 
-use crate::expression::expression;
-use call_steps::call::bare_call;
-use class_table::Table;
+use eval_steps::{bare_call, expression};
+use spec_table::ClassTable;
 use std::alloc::Global;
-use step_data::{Step, Task};
-use stmt_steps::statement::statement;
-use vdm_kinds::OutOfMemory;
+use step_data::{Action, Task};
+use stmt_steps::statement;
+use vdm_kinds::{Name, OutOfMemory};
+use vdm_values::Slot;
 
 /// What the node does.
 pub fn plan_of<'t>(
     alloc: Global,
-    table: &'t Table<'t>,
+    table: &'t ClassTable,
+    locals: &mut Vec<(Name, Slot)>,
     task: Task<'t>,
-) -> Result<Step<'t>, OutOfMemory>
-    ensures { IfOk result (λ s. code_of (table_spec table.now) s ≡ plan_of (table_spec table.now) (task_of task.entry)) }
+) -> Result<Action<'t>, OutOfMemory>
+    ensures same { IfOk result (λ a. action_code (table_spec table.now) locals.new.items a ≡ plan_of (of_thread (table_spec table.now)) (task_of task.entry locals.old.items)) }
+    ensures falls { IfOk result (λ a. height a ≤ 5) }
 {
     match task {
-        Task::Expr(env, tree) => expression(alloc, table, env, tree),
-        Task::Call(env, tree) => Ok(bare_call(env, tree)),
-        Task::Stmt(env, tree) => Ok(statement(env, tree)),
+        Task::Expr(here, tree) => Ok(Action::of(expression(alloc, table, locals, here, tree)?)),
+        Task::Call(here, tree) => Ok(Action::of(bare_call(alloc, table, locals, here, tree)?)),
+        Task::Stmt(here, tree) => Ok(statement(here, tree)),
     }
 }

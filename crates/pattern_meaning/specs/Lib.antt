@@ -1,7 +1,9 @@
 pub mod Bindings
+pub mod Brackets
 pub mod Choices
 pub mod First
 pub mod Fits
+pub mod Lists
 pub mod RecordTypes
 pub mod Ways
 pub mod Worked

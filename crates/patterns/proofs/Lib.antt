@@ -4,6 +4,7 @@ pub mod Lists
 pub mod Opening
 pub mod Picked
 pub mod Standing
+pub mod Several
 pub mod Steps
 pub mod Turns
 pub mod Views

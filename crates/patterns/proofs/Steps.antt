@@ -6,9 +6,9 @@ use Rattle.vdm_kinds.specs.declared.name.Name.{Name}
 use Rattle.vdm_kinds.specs.declared.name_at.TypeName.{TypeName}
 use Rattle.abstract_syntax.specs.Values.{ValueTree}
 use Rattle.pattern_meaning.specs.RecordTypes.{RecordType}
-use Rattle.pattern_meaning.specs.Ways.{Way, plainly, crossed, ways, is_next, where_true}
-use Rattle.pattern_meaning.specs.Bindings.{Binding, bindings, first_of, with_way, with_pair, put, value_in}
-use Rattle.abstract_syntax.specs.Expressions.{PatternTree, PatternTrees, no_patterns}
+use Rattle.pattern_meaning.specs.Ways.{Way, is_next, where_true}
+use Rattle.pattern_meaning.specs.Bindings.{Binding, first_of, with_way, with_pair, put, value_in}
+use Rattle.abstract_syntax.specs.Expressions.{PatternTrees, no_patterns}
 use Rattle.patterns.specs.Todos.{TodoTree, to_split, all_ways, next_ways}
 use Rattle.patterns.specs.declared.todo.Next.{Next}
 use Rattle.patterns.specs.declared.search.Turn.{Turn}
@@ -270,24 +270,19 @@ put_behind a b c d x y e f g = e ∙ ap (λ rest. x ∷ rest) f ∙ ap (λ rest.
 pub put_three_behind : (a b c d e : List TodoTree) (x y z : TodoTree) → e ≡ x ∷ d → d ≡ y ∷ c → c ≡ z ∷ b → b ≡ a → e ≡ x ∷ y ∷ z ∷ a
 put_three_behind a b c d e x y z p q r s = p ∙ ap (λ rest. x ∷ rest) q ∙ ap (λ rest. x ∷ y ∷ rest) r ∙ ap (λ rest. x ∷ y ∷ z ∷ rest) s
 
-crossed_plainly : (ws : List Way) → crossed ws plainly ≡ ws
-crossed_plainly [] = refl
-crossed_plainly (w ∷ ws) = λ i. append-nil w i ∷ crossed_plainly ws i
-
 module _ (types : TypeName → Option RecordType) where
   -- a search that begins may find all bindings
-  pub begins_with_all : (p : PatternTree) (given : List ValueTree) (v : ValueTree) (s : Search) → Begins p given v s →
-      found types s ≡ bindings types p given v
-  unfolding found left found_with found_else all_ways
-  begins_with_all p given v s h =
+  pub begins_with_all : (todos : List TodoTree) (given : List ValueTree) (s : Search) → Begins todos given s →
+      found types s ≡ filter_map (with_way []) (all_ways types given todos)
+  unfolding found left found_with found_else
+  begins_with_all todos given s h =
       (λ i. filter_map (with_way (h.names i)) (all_ways types (h.values i) (h.work i)) ++ found_else types (h.names i) (h.others i)) ∙
-      append-nil (filter_map (with_way []) (crossed (ways types p given v) plainly)) ∙
-      ap (filter_map (with_way [])) (crossed_plainly (ways types p given v))
+      append-nil (filter_map (with_way []) (all_ways types given todos))
 
-  pub begins_nested : (p : PatternTree) (given : List ValueTree) (v : ValueTree) (s : Search) → Begins p given v s →
+  pub begins_nested : (todos : List TodoTree) (given : List ValueTree) (s : Search) → Begins todos given s →
       IsNested (length (binding_of s.names)) (choices_of s)
   unfolding IsNested
-  begins_nested p given v s h = subst (λ cs. IsNested (length (binding_of s.names)) cs) (sym h.others) tt
+  begins_nested todos given s h = subst (λ cs. IsNested (length (binding_of s.names)) cs) (sym h.others) tt
 
   pub run_found : (all : List Binding) (turn : Turn) (s : Search) → Ends types all turn s → turn ≡ Found → outcome true s ≡ first_of all
   run_found all turn s h e = ap first_of (ap (λ t. ends_with types t s) (sym e) ∙ h.same)

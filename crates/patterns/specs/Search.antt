@@ -3,12 +3,11 @@ use Rattle.std.specs.Prelude.{◌≡◌, ℕ, ◌≤◌, Bool, true, false, List
 use Rattle.std.specs.Bool.{⊤}
 use Rattle.std.specs.List.{filter_map}
 use Rattle.vdm_kinds.specs.declared.name_at.TypeName.{TypeName}
-use Rattle.abstract_syntax.specs.Expressions.{PatternTree}
 use Rattle.abstract_syntax.specs.Values.{ValueTree}
 use Rattle.pattern_meaning.specs.RecordTypes.{RecordType}
 use Rattle.pattern_meaning.specs.Bindings.{Binding, with_way}
 use Rattle.pattern_meaning.specs.Ways.{Way}
-use Rattle.patterns.specs.Todos.{TodoTree, to_match, subject_tree, todo_of, all_ways}
+use Rattle.patterns.specs.Todos.{TodoTree, subject_tree, todo_of, all_ways}
 use Rattle.patterns.specs.declared.bound.Bound.{Bound}
 use Rattle.patterns.specs.declared.names.Names.{Names}
 use Rattle.patterns.specs.declared.work.Work.{Work}
@@ -112,8 +111,8 @@ outcome true s = Some (binding_of s.names)
 outcome false s = None
 
 -- a search before its first turn
-pub record Begins (p : PatternTree) (given : List ValueTree) (v : ValueTree) (s : Search) : Type 0 where
-  pub work : to_come s.work ≡ to_match p v ∷ []
+pub record Begins (todos : List TodoTree) (given : List ValueTree) (s : Search) : Type 0 where
+  pub work : to_come s.work ≡ todos
   pub values : s.given.now ≡ given
   pub names : binding_of s.names ≡ []
   pub others : choices_of s ≡ []

@@ -2,7 +2,6 @@
 use Rattle.std.specs.Prelude.{◌≡◌, ℕ, List, [], ◌∷◌, map, drop, Option}
 use Rattle.std.specs.Borrow.{Bor}
 use Rattle.std.specs.List.{flat_map}
-use Rattle.vdm_kinds.specs.declared.name.Name.{Name}
 use Rattle.vdm_kinds.specs.declared.name_at.TypeName.{TypeName}
 use Rattle.abstract_syntax.specs.Expressions.{
   PatternTree,
@@ -32,6 +31,7 @@ use Rattle.pattern_meaning.specs.Ways.{
   ways_of_map,
   ways_of_fronts,
 }
+use Rattle.expr_tree.specs.declared.pattern.Pattern.{Pattern}
 use Rattle.expr_tree.specs.View.{pattern_view, pattern_views, pattern_trees, maplet_pattern_view, maplet_pattern_trees}
 use Rattle.patterns.specs.declared.subject.Subject.{Subject}
 use Rattle.patterns.specs.declared.subject.Subject.TheVariants.{Whole, Part}
@@ -63,6 +63,16 @@ todo_of (Items ps vs) = to_match_items (pattern_trees (pattern_views ps.now)) vs
 todo_of (Choose ps vs from) = to_choose (pattern_trees (pattern_views ps.now)) (at vs.items) from
 todo_of (ChoosePair ms es from) = to_choose_pair (maplet_pattern_trees (map maplet_pattern_view ms.now)) (at es.items) from
 todo_of (Split ps vs from) = to_split (pattern_trees (pattern_views ps.now)) vs.now from
+
+-- each pattern with the value at its place, the first one first
+abbrev pub to_match_each : List PatternTree → List ValueTree → List TodoTree
+to_match_each [] vs = []
+to_match_each (p ∷ ps) [] = []
+to_match_each (p ∷ ps) (v ∷ vs) = to_match p v ∷ to_match_each ps vs
+
+-- the trees of the patterns that references are to
+abbrev pub patterns_at : List (Bor Pattern) → List PatternTree
+patterns_at references = map (λ (r : Bor Pattern). pattern_view r.now) references
 
 abbrev pub todo_brackets : TodoTree → ℕ
 todo_brackets (to_match p v) = brackets p

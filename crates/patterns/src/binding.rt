@@ -1,9 +1,10 @@
-// The first binding of a pattern with a value.
+// The first binding of a pattern with a value, and of several patterns.
 
-ghost use Rattle.std.specs.Prelude.{◌≡◌, IfOk, IfSome, Err, map, option_map};
+ghost use Rattle.std.specs.Prelude.{◌≡◌, IfOk, IfSome, IsSomeAnd, Err, map, option_map};
 ghost use Rattle.abstract_syntax.specs.ValueSets.{IsTooLarge, IsWithinLimits as IsValueWithinLimits};
 ghost use Rattle.expr_tree.specs.View.{pattern_view};
 ghost use Rattle.pattern_meaning.specs.Bindings.{first_binding, IsWithinLimits, IsPastLimits};
+ghost use Rattle.pattern_meaning.specs.Lists.{binding_of_list};
 ghost use Rattle.pattern_meaning.specs.RecordTypes.{stands_for};
 ghost use Rattle.patterns.specs.Todos.{subject_tree};
 ghost use Rattle.patterns.specs.declared.bound.Bound.{Bound as BoundName};
@@ -37,9 +38,32 @@ pub fn bind<N: TypeNames>(
     names: &N,
 ) -> Result<Option<BindList>, Halt<RunFault>>
     ensures bound { IfOk result (λ found. (found ≡ first_binding (stands_for (N.found names.now) (N.rank names.now) scope) (pattern_view p.now) given.now v.now) × IfSome found IsWithinLimits) }
-    ensures refused { (fault : RunFault) → result ≡ Err (Halt.Of fault) → (fault ≡ SizeLimit) × IfSome (first_binding (stands_for (N.found names.now) (N.rank names.now) scope) (pattern_view p.now) given.now v.now) IsPastLimits }
+    ensures refused { (fault : RunFault) → result ≡ Err (Halt.Of fault) → (fault ≡ SizeLimit) × IsSomeAnd (first_binding (stands_for (N.found names.now) (N.rank names.now) scope) (pattern_view p.now) given.now v.now) IsPastLimits }
 {
-    let mut search = Search::new(alloc, p, v, given.as_slice())?;
+    bind_all(alloc, &[p], &[v], given, scope, names)
+}
+
+/// The first binding of several patterns, each with the value at its place: as of one pattern that is made of them, so that equal names
+/// stand for equal values. There is none where values are missing; those behind the last pattern are left aside.
+///
+/// # Errors
+///
+/// `SizeLimit` exactly where the first binding gives a name a value of more than 200,000 nodes or depth above 500.
+pub fn bind_all<N: TypeNames>(
+    alloc: Global,
+    patterns: &[&Pattern],
+    values: &[&Value],
+    given: &ValueList,
+    scope: Name,
+    names: &N,
+) -> Result<Option<BindList>, Halt<RunFault>>
+    ensures bound { IfOk result (λ found. (found ≡ binding_of_list (stands_for (N.found names.now) (N.rank names.now) scope) (map (λ p. pattern_view p.now) patterns.now) given.now (map (λ v. v.now) values.now)) × IfSome found IsWithinLimits) }
+    ensures refused { (fault : RunFault) → result ≡ Err (Halt.Of fault) → (fault ≡ SizeLimit) × IsSomeAnd (binding_of_list (stands_for (N.found names.now) (N.rank names.now) scope) (map (λ p. pattern_view p.now) patterns.now) given.now (map (λ v. v.now) values.now)) IsPastLimits }
+{
+    if values.len() < patterns.len() {
+        return Ok(None);
+    }
+    let mut search = Search::new(alloc, patterns, values, given.as_slice())?;
     if search.run(alloc, scope, names)? {
         Ok(Some(copies(alloc, search.bound())?))
     } else {

@@ -1,4 +1,4 @@
-//! The first binding of a pattern with a value.
+//! The first binding of a pattern with a value, and of several patterns with a value each.
 #![tactic(auto)]
 
 mod bind_list;
@@ -18,4 +18,4 @@ mod todo;
 mod work;
 
 pub use bind_list::BindList;
-pub use binding::bind;
+pub use binding::{bind, bind_all};

@@ -6,7 +6,7 @@ ghost use Rattle.vdm_kinds.specs.declared.name_at.TypeName.{TypeName};
 ghost use Rattle.pattern_meaning.specs.Bindings.{first_of};
 ghost use Rattle.pattern_meaning.specs.RecordTypes.{RecordType, stands_for};
 ghost use Rattle.pattern_meaning.specs.Ways.{is_next, where_true};
-ghost use Rattle.patterns.specs.Todos.{all_ways, next_ways, at, subject_tree, todo_of, to_match_items, to_choose, to_choose_pair, to_match, to_split};
+ghost use Rattle.patterns.specs.Todos.{all_ways, next_ways, at, patterns_at, subject_tree, todo_of, to_match_each, to_match_items, to_choose, to_choose_pair, to_match, to_split};
 ghost use Rattle.patterns.specs.Search.{to_come, binding_of, choices_of, IsNested, Goes, GoesBack, Waits, Ends, Begins, after, found, outcome};
 ghost use Rattle.expr_tree.specs.View.{pattern_view, pattern_views, pattern_trees, maplet_pattern_view, maplet_pattern_trees};
 
@@ -46,19 +46,18 @@ pub(crate) enum Turn {
 }
 
 impl<'t> Search<'t> {
-    /// A search that begins, with the values of the pattern's bracketed expressions.
+    /// A search that begins, with the values of the patterns' bracketed expressions.
     pub(crate) fn new(
         alloc: Global,
-        pattern: &'t Pattern,
-        value: &'t Value,
+        patterns: &[&'t Pattern],
+        values: &[&'t Value],
         given: &'t [Value],
     ) -> Result<Search<'t>, OutOfMemory>
-        ensures { IfOk result (λ s. Begins (pattern_view pattern.now) given.now value.now s) }
+        requires { length patterns.now ≤ length values.now }
+        ensures { IfOk result (λ s. Begins (to_match_each (patterns_at patterns.now) (at values.now)) given.now s) }
     {
-        let mut work = Work::new(alloc);
-        work.push(Todo::Match(pattern, Subject::Whole(value)))?;
         Ok(Search {
-            work,
+            work: Work::of_pairs(alloc, patterns, values)?,
             given,
             names: Names::new(alloc),
             others: Others::new(alloc),

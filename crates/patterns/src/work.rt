@@ -1,15 +1,18 @@
 // What is still to be matched, as a stack.
 
-ghost use Rattle.std.specs.Prelude.{◌≡◌, ◌∷◌, [], IfOk, OnOk, MatchOption};
-ghost use Rattle.patterns.specs.Todos.{todo_of};
+ghost use Rattle.std.specs.Prelude.{◌≡◌, ◌≤◌, ◌∷◌, [], length, IfOk, OnOk, MatchOption};
+ghost use Rattle.patterns.specs.Todos.{at, patterns_at, to_match_each, todo_of};
 ghost use Rattle.patterns.specs.Search.{to_come};
 
+use crate::subject::Subject;
 use crate::todo::Todo;
+use expr_tree::Pattern;
 use std::alloc::Global;
 use vdm_kinds::OutOfMemory;
 use vdm_values::Value;
 
-/// What is still to be matched, in text order; what comes next is last. It is never longer than the pattern is deep, and one.
+/// What is still to be matched, in text order; what comes next is last. It is never longer than one pattern is deep, one, and the
+/// patterns behind that one.
 #[derive(Drop)]
 pub(crate) struct Work<'t> {
     todos: Vec<Todo<'t>>,
@@ -24,6 +27,22 @@ impl<'t> Work<'t> {
         Work {
             todos: Vec::new(alloc),
         }
+    }
+
+    /// Each pattern with the value at its place, the first one first.
+    pub(crate) fn of_pairs(
+        alloc: Global,
+        patterns: &[&'t Pattern],
+        values: &[&'t Value],
+    ) -> Result<Work<'t>, OutOfMemory>
+        requires { length patterns.now ≤ length values.now }
+        ensures { IfOk result (λ w. to_come w ≡ to_match_each (patterns_at patterns.now) (at values.now)) }
+    {
+        let mut work = Work::new(alloc);
+        for index in (0..patterns.len()).rev() {
+            work.push(Todo::Match(patterns[index], Subject::Whole(values[index])))?;
+        }
+        Ok(work)
     }
 
     /// This comes next.

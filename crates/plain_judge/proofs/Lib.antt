@@ -1,4 +1,9 @@
 mod Moves
 mod Next
+mod NotedChoices
+mod NotedNodes
+mod Noting
+mod OnlyAsked
+mod Results
 mod Staying
 mod Steps

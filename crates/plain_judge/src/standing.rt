@@ -1,20 +1,19 @@
 // Where a thread stands after its answers.
 
-ghost use Rattle.std.specs.Prelude.{◌≡◌, ◌≤◌, [], ◌∷◌, List, length, IfOk, OnOk};
+ghost use Rattle.std.specs.Prelude.{◌≡◌, [], ◌∷◌, List, IfOk, OnOk};
 ghost use Rattle.run_journal.specs.declared.answer.Answer.{Answer as AnswerView};
 ghost use Rattle.plain_judge.specs.Standings.{StaysOver, stands};
+ghost use Rattle.spec_table.specs.Tables.{table_spec};
 ghost use Rattle.stmt_exec.specs.Standing.{rest};
-ghost use Rattle.class_table.specs.Tables.{table_spec};
 ghost use Rattle.vdm_meaning.specs.Main.{main_code};
-ghost use Rattle.vdm_tree.specs.ClassView.{spec_view};
 ghost use Rattle.expr_tree.specs.View.{view_of};
 
-use class_table::Table;
+use expr_tree::Expr;
 use run_journal::{Answer, AnswerList, Question};
+use spec_table::ClassTable;
 use std::alloc::Global;
 use stmt_exec::Machine;
 use vdm_kinds::OutOfMemory;
-use vdm_tree::{Expr, Spec};
 
 /// Where a thread stands.
 #[derive(Drop)]
@@ -25,25 +24,11 @@ pub enum Standing {
     Over,
 }
 
-/// Where main stands after these answers, with this many units. What it is given behind its end it leaves.
+/// Where main of the table's specification stands after these answers, with this many units. What it is given behind its end
+/// it leaves.
 pub fn next_question(
     alloc: Global,
-    spec: &Spec,
-    tree: &Expr,
-    units: u64,
-    answers: AnswerList,
-) -> Result<Standing, OutOfMemory>
-    requires { length spec.now.classes.items ≤ 1 }
-    ensures { IfOk result (λ s. stands s ≡ main_code (spec_view spec.now) (view_of tree.now) units answers) }
-{
-    let table = Table::of(alloc, spec)?;
-    main_after(alloc, &table, tree, units, answers)
-}
-
-/// Where main of the table's specification stands after these answers.
-fn main_after(
-    alloc: Global,
-    table: &Table<'_>,
+    table: &ClassTable,
     tree: &Expr,
     units: u64,
     answers: AnswerList,

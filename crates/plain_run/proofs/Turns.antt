@@ -80,11 +80,11 @@ module _ (spec : SpecTree) (tree : ExprTree) (units : ℕ) (before : List Entry)
 
 -- ---- before the first entry
 
-pub first-goes_on : (spec : SpecTree) (tree : ExprTree) (units : ℕ) (before : List Entry) → before ≡ [] → (standing : List Answer → Standing) (same : SpecTree) → same ≡ spec → ((answers : List Answer) → standing answers ≡ main_code same tree units answers) → GoesOn spec tree units before standing
-first-goes_on spec tree units before none standing same is stands = record {
+pub first-goes_on : (spec : SpecTree) (tree : ExprTree) (units : ℕ) (before : List Entry) → before ≡ [] → (standing : List Answer → Standing) → ((answers : List Answer) → standing answers ≡ main_code spec tree units answers) → GoesOn spec tree units before standing
+first-goes_on spec tree units before none standing stands = record {
   run = subst (IsRun spec tree units) (sym none) tt;
   order = subst (IsInOrder spec) (sym none) tt;
   open_end = ap finish_of none;
   stands = λ answers.
-      stands answers ∙ ap (λ s. main_code s tree units answers) is ∙ ap (λ xs. main_code spec tree units (main_answers xs ++ answers)) (sym none);
+      stands answers ∙ ap (λ xs. main_code spec tree units (main_answers xs ++ answers)) (sym none);
 }

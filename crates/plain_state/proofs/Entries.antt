@@ -75,6 +75,6 @@ module _ (spec : SpecTree) (thread : Thread) (before : List Entry) where
   new-entered after class slots number due last =
       record { entry = entry thread number (deed.New class slots); fits = tt; made_of = refl; is_legal = (object-fresh spec before number (omega arith), omega arith); is_numbered = due; is_last = last }
 
-  pub read-entered : (after : List Entry) (o : ℕ) (var : VarRef) (slot : Slot) → IsReady spec before (Read o var) → Some slot ≡ state_of spec (object_part o before) var → after ≡ before ++ entry thread o (deed.Read var slot) ∷ [] → IsEntered spec thread before (Read o var) (Holds slot) after
+  pub read-entered : (after : List Entry) (o : ℕ) (var : VarRef) (slot : Slot) → IsReady spec before (Read o var) → slot ≡ state_of spec (object_part o before) var → after ≡ before ++ entry thread o (deed.Read var slot) ∷ [] → IsEntered spec thread before (Read o var) (Holds slot) after
   read-entered after o var slot ready held last =
-      record { entry = entry thread o (deed.Read var slot); fits = tt; made_of = refl; is_legal = (ready.0, sym held); is_numbered = tt; is_last = last }
+      record { entry = entry thread o (deed.Read var slot); fits = tt; made_of = refl; is_legal = (ready, sym held); is_numbered = tt; is_last = last }

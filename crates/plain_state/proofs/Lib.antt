@@ -1,4 +1,4 @@
-mod ClassNames
 mod Entries
 mod LastWrites
 mod Numbers
+mod Variables

@@ -1,19 +1,20 @@
 // The order of one lane, in which new objects are numbered one after another.
 
 ghost use Rattle.std.specs.Prelude.{◌≡◌, ◌↔◌, IsTrue};
+ghost use Rattle.spec_table.specs.Tables.{table_spec};
 ghost use Rattle.vdm_legal.specs.Order.{IsInOrder, IsNumbered, above_all, next_number};
-ghost use Rattle.vdm_tree.specs.ClassView.{spec_view};
 
+use crate::classes::count_of;
 use run_journal::{Deed, Entry, EntryList};
-use vdm_tree::Spec;
+use spec_table::ClassTable;
 
 /// Whether the entries stand in the order of one lane: each new object has the number that is due.
-pub fn is_in_order(spec: &Spec, entries: &EntryList) -> bool
-    ensures { IsTrue result ↔ IsInOrder (spec_view spec.now) entries.now }
+pub fn is_in_order(table: &ClassTable, entries: &EntryList) -> bool
+    ensures { IsTrue result ↔ IsInOrder (table_spec table.now) entries.now }
 {
     let entries = entries.as_slice();
     for (index, entry) in entries.iter().enumerate() {
-        if !is_numbered(spec, &entries[..index], entry) {
+        if !is_numbered(table, &entries[..index], entry) {
             return false;
         }
     }
@@ -21,20 +22,20 @@ pub fn is_in_order(spec: &Spec, entries: &EntryList) -> bool
 }
 
 /// Whether an object that the entry makes has the number that is due.
-fn is_numbered(spec: &Spec, before: &[Entry], entry: &Entry) -> bool
-    ensures { IsTrue result ↔ IsNumbered (spec_view spec.now) before.now entry.now.object entry.now.deed }
+fn is_numbered(table: &ClassTable, before: &[Entry], entry: &Entry) -> bool
+    ensures { IsTrue result ↔ IsNumbered (table_spec table.now) before.now entry.now.object entry.now.deed }
 {
     match entry.deed {
-        Deed::New { .. } => entry.object as usize == next_number(spec, before),
+        Deed::New { .. } => entry.object as usize == next_number(table, before),
         _ => true,
     }
 }
 
 /// The number of the next new object: above those of all class objects, and above all on which an entry stands.
-fn next_number(spec: &Spec, before: &[Entry]) -> usize
-    ensures { result ≡ next_number (spec_view spec.now) before.now }
+fn next_number(table: &ClassTable, before: &[Entry]) -> usize
+    ensures { result ≡ next_number (table_spec table.now) before.now }
 {
-    above_all(before).max(spec.classes.len() + 1)
+    above_all(before).max(count_of(table))
 }
 
 /// One more than the greatest number of an object on which an entry stands.

@@ -1,18 +1,17 @@
 // What a variable holds.
 
-ghost use Rattle.std.specs.Prelude.{◌≡◌, ◌↔◌, IfOk, IsTrue, Some, option_map};
+ghost use Rattle.std.specs.Prelude.{◌≡◌, ◌↔◌, IfOk, IsTrue};
 ghost use Rattle.run_journal.specs.Parts.{object_part};
-ghost use Rattle.vdm_values.specs.declared.slot.Slot.{Slot as SlotView};
-ghost use Rattle.vdm_legal.specs.State.{state_of};
-ghost use Rattle.vdm_tree.specs.ClassView.{spec_view};
+ghost use Rattle.spec_table.specs.Tables.{table_spec};
+ghost use Rattle.vdm_legal.specs.State.{first_slot, state_of};
 ghost use Rattle.plain_state.specs.Holdings.{held_slot};
 
 use crate::layout::first_slot;
 use crate::writes::last_written;
 use run_journal::Entry;
+use spec_table::ClassTable;
 use std::alloc::Global;
 use vdm_kinds::{OutOfMemory, VarRef};
-use vdm_tree::Spec;
 use vdm_values::{Slot, Value};
 
 /// What a variable holds, where it stands among the entries.
@@ -22,55 +21,54 @@ enum Holding<'a> {
     Written(&'a Value),
     /// Nothing was written, and the object was made with this slot.
     Made(&'a Slot),
+    /// Nothing was written, and the object was made without the variable.
+    Nothing,
 }
 
-/// A copy of what the variable of the object holds behind the entries, where the object has the variable: what was written
-/// last, or else what the object was made with.
+/// A copy of what the variable of the object holds behind the entries: what was written last, or else what the object was made
+/// with. A variable that the object does not have is unset.
 pub fn state_of(
     alloc: Global,
-    spec: &Spec,
+    table: &ClassTable,
     entries: &[Entry],
     object: u32,
     var: VarRef,
-) -> Result<Option<Slot>, OutOfMemory>
-    ensures { IfOk result (λ held. held ≡ state_of (spec_view spec.now) (object_part object entries.now) var) }
+) -> Result<Slot, OutOfMemory>
+    ensures { IfOk result (λ held. held ≡ state_of (table_spec table.now) (object_part object entries.now) var) }
 {
-    match held_by(spec, entries, object, var) {
-        Some(holding) => Ok(Some(slot_of(alloc, holding)?)),
-        None => Ok(None),
-    }
+    slot_of(alloc, held_by(table, entries, object, var))
 }
 
-/// Whether the object has the variable, and it holds this behind the entries.
-pub(crate) fn holds(spec: &Spec, entries: &[Entry], object: u32, var: VarRef, slot: &Slot) -> bool
-    ensures { IsTrue result ↔ (state_of (spec_view spec.now) (object_part object entries.now) var ≡ Some slot.now) }
+/// Whether the variable of the object holds this behind the entries.
+pub(crate) fn holds(
+    table: &ClassTable,
+    entries: &[Entry],
+    object: u32,
+    var: VarRef,
+    slot: &Slot,
+) -> bool
+    ensures { IsTrue result ↔ (state_of (table_spec table.now) (object_part object entries.now) var ≡ slot.now) }
 {
-    match held_by(spec, entries, object, var) {
-        Some(holding) => is_slot(holding, slot),
-        None => false,
-    }
+    is_slot(held_by(table, entries, object, var), slot)
 }
 
-/// Whether the object has the variable.
-pub(crate) fn has_variable(spec: &Spec, entries: &[Entry], object: u32, var: VarRef) -> bool
-    ensures { IsTrue result ↔ ((slot : SlotView) × (state_of (spec_view spec.now) (object_part object entries.now) var ≡ Some slot)) }
-{
-    match held_by(spec, entries, object, var) {
-        Some(_) => true,
-        None => false,
-    }
-}
-
-/// What the variable of the object holds behind the entries, where the object has the variable.
-fn held_by<'a>(spec: &Spec, entries: &'a [Entry], object: u32, var: VarRef) -> Option<Holding<'a>>
-    ensures { option_map held_slot result ≡ state_of (spec_view spec.now) (object_part object entries.now) var }
+/// What the variable of the object holds behind the entries.
+fn held_by<'a>(table: &ClassTable, entries: &'a [Entry], object: u32, var: VarRef) -> Holding<'a>
+    ensures { held_slot result ≡ state_of (table_spec table.now) (object_part object entries.now) var }
 {
     match last_written(entries, object, var) {
-        Some(value) => Some(Holding::Written(value)),
-        None => {
-            let slot = first_slot(spec, entries, object, var)?;
-            Some(Holding::Made(slot))
-        }
+        Some(value) => Holding::Written(value),
+        None => made_with(table, entries, object, var),
+    }
+}
+
+/// What the object was made with for the variable.
+fn made_with<'a>(table: &ClassTable, entries: &'a [Entry], object: u32, var: VarRef) -> Holding<'a>
+    ensures { held_slot result ≡ first_slot (table_spec table.now) var (object_part object entries.now) }
+{
+    match first_slot(table, entries, object, var) {
+        Some(slot) => Holding::Made(slot),
+        None => Holding::Nothing,
     }
 }
 
@@ -81,6 +79,7 @@ fn slot_of(alloc: Global, holding: Holding<'_>) -> Result<Slot, OutOfMemory>
     match holding {
         Holding::Written(value) => Ok(Slot::Held(value.copy(alloc)?)),
         Holding::Made(slot) => slot.copy(alloc),
+        Holding::Nothing => Ok(Slot::Unset),
     }
 }
 
@@ -92,5 +91,6 @@ fn is_slot(holding: Holding<'_>, slot: &Slot) -> bool
     match holding {
         Holding::Written(value) => matches!(slot, Slot::Held(held) if held == value),
         Holding::Made(first) => first == slot,
+        Holding::Nothing => matches!(slot, Slot::Unset),
     }
 }

@@ -3,12 +3,13 @@
 ghost use Rattle.std.specs.Prelude.{◌≡◌};
 ghost use Rattle.vdm_legal.specs.Order.{above_all};
 
+use crate::classes::count_of;
 use crate::state::state_of;
 use journal_entries::entry_made;
 use run_journal::{Answer, Deed, Entry, EntryList, Question, Thread};
+use spec_table::ClassTable;
 use std::alloc::Global;
 use vdm_kinds::{Name, OutOfMemory, VarRef};
-use vdm_tree::Spec;
 use vdm_values::SlotList;
 
 /// The entries of a run so far. What a question asks is found in them.
@@ -22,7 +23,7 @@ pub struct Store {
 
 impl Store {
     ghost use Rattle.std.specs.Prelude.{◌≡◌, [], IfOk, OnErr};
-    ghost use Rattle.vdm_tree.specs.ClassView.{spec_view};
+    ghost use Rattle.spec_table.specs.Tables.{table_spec};
     ghost use Rattle.plain_state.specs.Entered.{IsEntered, journal};
     ghost use Rattle.plain_state.specs.Readiness.{IsReadyFor};
 
@@ -43,19 +44,19 @@ impl Store {
     pub fn answer(
         &mut self,
         alloc: Global,
-        spec: &Spec,
+        table: &ClassTable,
         thread: Thread,
         question: Question,
     ) -> Result<Answer, OutOfMemory>
-        requires ready { IsReadyFor (spec_view spec.now) thread (journal self.old) question }
+        requires ready { IsReadyFor (table_spec table.now) thread (journal self.old) question }
         ensures entered { IfOk result (λ answer.
-            IsEntered (spec_view spec.now) thread (journal self.old) question answer (journal self.new)) }
+            IsEntered (table_spec table.now) thread (journal self.old) question answer (journal self.new)) }
         ensures err { OnErr result (journal self.new ≡ journal self.old) }
     {
         match question {
-            Question::New { class, values } => self.make(spec, thread, class, values),
-            Question::Read { object, var } => self.read(alloc, spec, thread, object, var),
-            question => self.note(spec, thread, question),
+            Question::New { class, values } => self.make(table, thread, class, values),
+            Question::Read { object, var } => self.read(alloc, table, thread, object, var),
+            question => self.note(table, thread, question),
         }
     }
 
@@ -79,23 +80,23 @@ impl Store {
     ghost use Rattle.std.specs.Prelude.{◌≡◌, [], ◌∷◌, ◌++◌, IfOk, OnErr, OnOk};
     ghost use Rattle.vdm_legal.specs.Order.{next_number};
     ghost use Rattle.vdm_legal.specs.Ready.{IsReady};
-    ghost use Rattle.vdm_tree.specs.ClassView.{spec_view};
+    ghost use Rattle.spec_table.specs.Tables.{table_spec};
     ghost use Rattle.plain_state.specs.Entered.{HasNothingToTell, IsEntered, journal};
     ghost use Rattle.plain_state.specs.Readiness.{IsReadyFor};
 
     /// Makes a new object.
     fn make(
         &mut self,
-        spec: &Spec,
+        table: &ClassTable,
         thread: Thread,
         class: Name,
         values: SlotList,
     ) -> Result<Answer, OutOfMemory>
         ensures entered { IfOk result (λ answer.
-            IsEntered (spec_view spec.now) thread (journal self.old) (Question.New class values) answer (journal self.new)) }
+            IsEntered (table_spec table.now) thread (journal self.old) (Question.New class values) answer (journal self.new)) }
         ensures err { OnErr result (journal self.new ≡ journal self.old) }
     {
-        let object = self.next_number(spec)?;
+        let object = self.next_number(table)?;
         self.enter(Entry::new(thread, object, Deed::New { class, values }))?;
         Ok(Answer::Object(object))
     }
@@ -104,19 +105,17 @@ impl Store {
     fn read(
         &mut self,
         alloc: Global,
-        spec: &Spec,
+        table: &ClassTable,
         thread: Thread,
         object: u32,
         var: VarRef,
     ) -> Result<Answer, OutOfMemory>
-        requires ready { IsReady (spec_view spec.now) (journal self.old) (Question.Read object var) }
+        requires ready { IsReady (table_spec table.now) (journal self.old) (Question.Read object var) }
         ensures entered { IfOk result (λ answer.
-            IsEntered (spec_view spec.now) thread (journal self.old) (Question.Read object var) answer (journal self.new)) }
+            IsEntered (table_spec table.now) thread (journal self.old) (Question.Read object var) answer (journal self.new)) }
         ensures err { OnErr result (journal self.new ≡ journal self.old) }
     {
-        let Some(value) = state_of(alloc, spec, self.entries.as_slice(), object, var)? else {
-            unreachable!()
-        };
+        let value = state_of(alloc, table, self.entries.as_slice(), object, var)?;
         let answer = Answer::Slot(value.copy(alloc)?);
         self.enter(Entry::new(thread, object, Deed::Read { var, value }))?;
         Ok(answer)
@@ -125,14 +124,14 @@ impl Store {
     /// Enters what the thread did where there is nothing to tell.
     fn note(
         &mut self,
-        spec: &Spec,
+        table: &ClassTable,
         thread: Thread,
         question: Question,
     ) -> Result<Answer, OutOfMemory>
-        requires ready { IsReadyFor (spec_view spec.now) thread (journal self.old) question }
+        requires ready { IsReadyFor (table_spec table.now) thread (journal self.old) question }
         requires done { HasNothingToTell question }
         ensures entered { IfOk result (λ answer.
-            IsEntered (spec_view spec.now) thread (journal self.old) question answer (journal self.new)) }
+            IsEntered (table_spec table.now) thread (journal self.old) question answer (journal self.new)) }
         ensures err { OnErr result (journal self.new ≡ journal self.old) }
     {
         let Some(entry) = entry_made(thread, question, Answer::Done) else {
@@ -143,10 +142,10 @@ impl Store {
     }
 
     /// The number that a new object gets. Where 32 bits hold no further number, memory is wanting.
-    fn next_number(&self, spec: &Spec) -> Result<u32, OutOfMemory>
-        ensures { IfOk result (λ number. number ≡ next_number (spec_view spec.now) (journal self.now)) }
+    fn next_number(&self, table: &ClassTable) -> Result<u32, OutOfMemory>
+        ensures { IfOk result (λ number. number ≡ next_number (table_spec table.now) (journal self.now)) }
     {
-        let first = spec.classes.len() as u64 + 1;
+        let first = count_of(table) as u64;
         let next = if first > self.above {
             first
         } else {

@@ -10,6 +10,11 @@ use Rattle.vdm_kinds.specs.NameList.{built_in_names}
 use Rattle.run_journal.specs.declared.thread.Thread.{Thread}
 use Rattle.run_journal.specs.declared.write.Write.{Write}
 use Rattle.report_texts.specs.declared.blocked.Blocked.{Blocked}
+use Rattle.report_texts.specs.Words.{Limits}
+
+-- the limits of so many units
+abbrev pub up_to : ℕ → Limits
+up_to n = record { steps = n }
 
 -- a class, an operation, two variables, a type and a quote
 abbrev pub names : List (List ℕ)

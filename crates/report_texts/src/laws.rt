@@ -1,6 +1,6 @@
 // The laws of words and texts, and texts worked out. Each is the contract of a function that does nothing.
 
-ghost use Rattle.std.specs.Prelude.{◌≡◌, ℕ, List, [], ◌∷◌, ◌++◌, true, false, ◌^◌, ◌-◌, codes, negsuc};
+ghost use Rattle.std.specs.Prelude.{◌≡◌, ℕ, ◌⊎◌, List, [], ◌∷◌, ◌++◌, true, false, ◌^◌, ◌-◌, codes, negsuc};
 ghost use Rattle.vdm_kinds.specs.declared.run_fault.RunFault.TheVariants.{Overflow, UncaughtExit};
 ghost use Rattle.vdm_kinds.specs.declared.spec_kind.SpecKind.TheVariants.{SyntaxFault};
 ghost use Rattle.vdm_values.specs.declared.slot.Slot.TheVariants.{Unset, Held};
@@ -17,7 +17,7 @@ ghost use Rattle.report_texts.specs.Quoted.{escaped};
 ghost use Rattle.report_texts.specs.Values.{value_text};
 ghost use Rattle.report_texts.specs.Log.{log_line};
 ghost use Rattle.report_texts.specs.Output.{output};
-ghost use Rattle.report_texts.specs.Worked.{names, class, named, operation, variable, whole};
+ghost use Rattle.report_texts.specs.Worked.{up_to, names, class, named, operation, variable, whole};
 ghost use Rattle.report_texts.specs.Worked.{red, characters, pair, in_expression, in_specification, waits};
 ghost use Rattle.report_texts.specs.Words.{Command, check, run, IsCommand, IsNoCommand};
 ghost use Rattle.report_texts.specs.Lines.{thread_text, refused_line, failed_line, result_line, checked_line};
@@ -28,18 +28,49 @@ pub fn one_command()
     ensures { (words : List (List ℕ)) (a b : Command) → IsCommand words a → IsCommand words b → a ≡ b }
 {}
 
-/// Words that are a command, and words that are none.
+/// The words of a command line are a command, or none.
+pub fn command_or_none()
+    ensures { (words : List (List ℕ)) → IsNoCommand words ⊎ ((command : Command) × IsCommand words command) }
+{}
+
+/// Words that are a command.
 pub fn worked_commands()
     ensures checked { IsCommand (codes "check" ∷ []) check }
-    ensures run_ { IsCommand (codes "run" ∷ codes "1 + 1" ∷ []) (run (codes "1 + 1") false) }
-    ensures logged { IsCommand (codes "run" ∷ codes "1" ∷ codes "--log" ∷ []) (run (codes "1") true) }
-    ensures option_as_text { IsCommand (codes "run" ∷ codes "--log" ∷ []) (run (codes "--log") false) }
+    ensures run_ { IsCommand (codes "run" ∷ codes "1 + 1" ∷ []) (run (codes "1 + 1") (up_to 1000000) false) }
+    ensures logged { IsCommand (codes "run" ∷ codes "1" ∷ codes "--log" ∷ []) (run (codes "1") (up_to 1000000) true) }
+    ensures log_as_text { IsCommand (codes "run" ∷ codes "--log" ∷ []) (run (codes "--log") (up_to 1000000) false) }
+    ensures steps_as_text { IsCommand (codes "run" ∷ codes "--steps" ∷ []) (run (codes "--steps") (up_to 1000000) false) }
+    ensures apart { IsCommand (codes "run" ∷ codes "1" ∷ codes "--steps" ∷ codes "9" ∷ []) (run (codes "1") (up_to 9) false) }
+    ensures joined { IsCommand (codes "run" ∷ codes "1" ∷ codes "--steps=9" ∷ []) (run (codes "1") (up_to 9) false) }
+    ensures zeros { IsCommand (codes "run" ∷ codes "1" ∷ codes "--steps=0000000009" ∷ []) (run (codes "1") (up_to 9) false) }
+    ensures most { IsCommand (codes "run" ∷ codes "1" ∷ codes "--steps" ∷ codes "100000000" ∷ [])
+        (run (codes "1") (up_to 100000000) false) }
+    ensures steps_first { IsCommand (codes "run" ∷ codes "1" ∷ codes "--steps" ∷ codes "9" ∷ codes "--log" ∷ [])
+        (run (codes "1") (up_to 9) true) }
+    ensures log_first { IsCommand (codes "run" ∷ codes "1" ∷ codes "--log" ∷ codes "--steps=9" ∷ [])
+        (run (codes "1") (up_to 9) true) }
+{}
+
+/// Words that are none.
+pub fn worked_usage()
     ensures none { IsNoCommand [] }
     ensures no_text { IsNoCommand (codes "run" ∷ []) }
     ensures check_of_a_text { IsNoCommand (codes "check" ∷ codes "1" ∷ []) }
     ensures check_with_log { IsNoCommand (codes "check" ∷ codes "--log" ∷ []) }
-    ensures twice_logged { IsNoCommand (codes "run" ∷ codes "1" ∷ codes "--log" ∷ codes "--log" ∷ []) }
+    ensures check_with_steps { IsNoCommand (codes "check" ∷ codes "--steps" ∷ codes "9" ∷ []) }
     ensures other_letters { IsNoCommand (codes "Check" ∷ []) }
+    ensures twice_logged { IsNoCommand (codes "run" ∷ codes "1" ∷ codes "--log" ∷ codes "--log" ∷ []) }
+    ensures twice_steps { IsNoCommand (codes "run" ∷ codes "1" ∷ codes "--steps" ∷ codes "9" ∷ codes "--steps=9" ∷ []) }
+    ensures no_value { IsNoCommand (codes "run" ∷ codes "1" ∷ codes "--steps" ∷ []) }
+    ensures empty_value { IsNoCommand (codes "run" ∷ codes "1" ∷ codes "--steps=" ∷ []) }
+    ensures log_as_value { IsNoCommand (codes "run" ∷ codes "1" ∷ codes "--steps" ∷ codes "--log" ∷ []) }
+    ensures zero { IsNoCommand (codes "run" ∷ codes "1" ∷ codes "--steps" ∷ codes "0" ∷ []) }
+    ensures past_most { IsNoCommand (codes "run" ∷ codes "1" ∷ codes "--steps" ∷ codes "100000001" ∷ []) }
+    ensures eleven_digits { IsNoCommand (codes "run" ∷ codes "1" ∷ codes "--steps" ∷ codes "00000000009" ∷ []) }
+    ensures sign { IsNoCommand (codes "run" ∷ codes "1" ∷ codes "--steps" ∷ codes "+9" ∷ []) }
+    ensures letter { IsNoCommand (codes "run" ∷ codes "1" ∷ codes "--steps" ∷ codes "9a" ∷ []) }
+    ensures cut_short { IsNoCommand (codes "run" ∷ codes "1" ∷ codes "--step" ∷ codes "9" ∷ []) }
+    ensures two_dashes { IsNoCommand (codes "run" ∷ codes "1" ∷ codes "--" ∷ []) }
 {}
 
 /// Values as they are written.

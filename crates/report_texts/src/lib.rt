@@ -8,6 +8,6 @@ mod laws;
 pub use blocked::Blocked;
 pub use blocked_list::BlockedList;
 pub use laws::{
-    one_command, worked_commands, worked_lines, worked_log, worked_reports, worked_strings,
-    worked_values,
+    command_or_none, one_command, worked_commands, worked_lines, worked_log, worked_reports,
+    worked_strings, worked_usage, worked_values,
 };

@@ -1,8 +1,7 @@
 // `judge UNITS`: whether the entries are a run. `ordered`: whether they stand in the order of one lane. `finish`: how they
 // end. `run UNITS`: the entries of the run, and what these three say of them.
 
-ghost use Rattle.std.specs.Prelude.{◌≤◌, length};
-
+use expr_tree::Expr;
 use plain_judge::is_run;
 use plain_run::{Ran, run};
 use plain_state::{Finish, finish_of, is_in_order};
@@ -10,53 +9,54 @@ use row_desk::say_entries;
 use row_trees::TreeDesk;
 use row_words::Line;
 use run_journal::{EntryList, Thread};
+use spec_table::ClassTable;
 use vdm_kinds::{OutOfMemory, Place, RunFault};
-use vdm_tree::{Expr, Spec};
 use vdm_values::Slot;
 
 pub(crate) fn answer(desk: &mut TreeDesk, line: &mut Line<'_>, word: &str) {
     let units = line.whole();
     desk.read(line);
-    if let Some(spec) = desk.spec()
-        && let Some(tree) = desk.tree()
-    {
-        if word == "judge" {
-            say_judged(line, spec, tree, units, &desk.plain.entries);
-        } else {
-            say_run(
-                line,
-                spec,
-                tree,
-                units,
-                &run(line.alloc(), spec, tree, units),
-            );
-        }
-    } else {
-        line.refuse();
+    if let Some(table) = desk.take_table(line) {
+        answer_by(desk, line, word, &table, units);
     }
     line.say_names(&desk.plain.names);
 }
 
-fn say_judged(line: &mut Line<'_>, spec: &Spec, tree: &Expr, units: u64, entries: &EntryList)
-    requires { length spec.now.classes.items ≤ 1 }
-{
-    match is_run(line.alloc(), spec, tree, units, entries) {
+fn answer_by(desk: &TreeDesk, line: &mut Line<'_>, word: &str, table: &ClassTable, units: u64) {
+    let Some(tree) = desk.tree() else {
+        line.refuse();
+        return;
+    };
+    if word == "judge" {
+        say_judged(line, table, tree, units, &desk.plain.entries);
+    } else {
+        let ran = run(line.alloc(), table, tree, units);
+        say_run(line, table, tree, units, &ran);
+    }
+}
+
+fn say_judged(
+    line: &mut Line<'_>,
+    table: &ClassTable,
+    tree: &Expr,
+    units: u64,
+    entries: &EntryList,
+) {
+    match is_run(line.alloc(), table, tree, units, entries) {
         Ok(is_run) => line.say(if is_run { "run" } else { "no run" }),
         Err(OutOfMemory) => line.fall_short(),
     }
 }
 
-fn say_run(line: &mut Line<'_>, spec: &Spec, tree: &Expr, units: u64, ran: &Ran)
-    requires { length spec.now.classes.items ≤ 1 }
-{
+fn say_run(line: &mut Line<'_>, table: &ClassTable, tree: &Expr, units: u64, ran: &Ran) {
     line.say(if ran.finish.is_some() {
         "whole "
     } else {
         "cut short "
     });
-    say_judged(line, spec, tree, units, &ran.journal);
+    say_judged(line, table, tree, units, &ran.journal);
     line.say(" ");
-    say_order(line, spec, &ran.journal);
+    say_order(line, table, &ran.journal);
     line.say(", ");
     say_finish(line, &ran.journal);
     say_entries(line, &ran.journal);
@@ -67,13 +67,19 @@ pub(crate) fn on_entries(desk: &mut TreeDesk, line: &mut Line<'_>, word: &str) {
     if word == "finish" {
         say_finish(line, &desk.plain.entries);
     } else {
-        say_order(line, &desk.spec, &desk.plain.entries);
+        ordered(desk, line);
     }
     line.say_names(&desk.plain.names);
 }
 
-fn say_order(line: &mut Line<'_>, spec: &Spec, entries: &EntryList) {
-    line.say(if is_in_order(spec, entries) {
+fn ordered(desk: &mut TreeDesk, line: &mut Line<'_>) {
+    if let Some(table) = desk.take_table(line) {
+        say_order(line, &table, &desk.plain.entries);
+    }
+}
+
+fn say_order(line: &mut Line<'_>, table: &ClassTable, entries: &EntryList) {
+    line.say(if is_in_order(table, entries) {
         "in order"
     } else {
         "out of order"

@@ -2,36 +2,29 @@
 // how many calls it asks for, where a new object is number 2 and all else is done. `asks UNITS`: the entry that the plain
 // program's question behind the answers but the last makes with the last one, or that it asks nothing.
 
-ghost use Rattle.std.specs.Prelude.{◌≤◌, length};
-
-use class_table::Table;
+use expr_tree::Expr;
 use journal_entries::entry_made;
 use plain_judge::{Standing, next_question};
 use row_desk::say_made;
 use row_trees::TreeDesk;
 use row_words::Line;
 use run_journal::{Answer, AnswerList, HostAnswer, Question, Thread};
+use spec_table::ClassTable;
 use std::alloc::Global;
 use std::mem;
 use stmt_exec::Machine;
 use vdm_kinds::OutOfMemory;
-use vdm_tree::{Expr, Spec};
 
 pub(crate) fn answer(desk: &mut TreeDesk, line: &mut Line<'_>, word: &str) {
     let units = line.whole();
     desk.read(line);
     let last = last_answer(desk, line, word);
     let answers = mem::replace(&mut desk.plain.answers, Vec::new(line.alloc()));
-    if let Some(spec) = desk.spec()
-        && let Some(tree) = desk.tree()
-    {
-        if word == "asks" {
-            asks(line, spec, tree, units, answers, last);
-        } else {
-            tabled(line, word, spec, tree, units, &answers);
+    if let Some(table) = desk.take_table(line) {
+        match desk.tree() {
+            Some(tree) => answer_by(line, word, &table, tree, units, answers, last),
+            None => line.refuse(),
         }
-    } else {
-        line.refuse();
     }
     line.say_names(&desk.plain.names);
 }
@@ -45,19 +38,26 @@ fn last_answer(desk: &mut TreeDesk, line: &mut Line<'_>, word: &str) -> Answer {
     }
 }
 
-fn tabled(line: &mut Line<'_>, word: &str, spec: &Spec, tree: &Expr, units: u64, answers: &[Answer])
-    requires { length spec.now.classes.items ≤ 1 }
-{
-    match Table::of(line.alloc(), spec) {
-        Ok(table) => started(line, word, &table, tree, units, answers),
-        Err(OutOfMemory) => line.fall_short(),
+fn answer_by(
+    line: &mut Line<'_>,
+    word: &str,
+    table: &ClassTable,
+    tree: &Expr,
+    units: u64,
+    answers: Vec<Answer>,
+    last: Answer,
+) {
+    if word == "asks" {
+        asks(line, table, tree, units, answers, last);
+    } else {
+        started(line, word, table, tree, units, &answers);
     }
 }
 
 fn started(
     line: &mut Line<'_>,
     word: &str,
-    table: &Table<'_>,
+    table: &ClassTable,
     tree: &Expr,
     units: u64,
     answers: &[Answer],
@@ -163,16 +163,14 @@ fn answer_to(question: &Question) -> Answer {
 
 fn asks(
     line: &mut Line<'_>,
-    spec: &Spec,
+    table: &ClassTable,
     tree: &Expr,
     units: u64,
     answers: Vec<Answer>,
     last: Answer,
-)
-    requires { length spec.now.classes.items ≤ 1 }
-{
+) {
     let before = AnswerList::from_vec(answers);
-    match next_question(line.alloc(), spec, tree, units, before) {
+    match next_question(line.alloc(), table, tree, units, before) {
         Ok(Standing::Asks(question)) => say_made(line, entry_made(Thread::Main, question, last)),
         Ok(Standing::Over) => line.say("over"),
         Err(OutOfMemory) => line.fall_short(),

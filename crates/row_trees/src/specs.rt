@@ -4,13 +4,15 @@ ghost use Rattle.std.specs.Prelude.{◌≡◌, IfOk};
 ghost use Rattle.vdm_kinds.specs.NameList.{built_in_names};
 
 use crate::tree_desk::TreeDesk;
+use class_grammar::spec_of_tokens;
 use row_desk::MOST_NAMES;
 use row_words::Line;
 use std::alloc::Global;
 use std::mem;
 use text_reader::handed::spec_check::CheckedExpr;
 use text_reader::{parse_expression, read_texts};
-use vdm_kinds::{Halt, OutOfMemory, Place, SpecFault};
+use vdm_kinds::{Halt, OutOfMemory, Part, Place, SpecFault};
+use vdm_lexer::lex;
 use vdm_names::Names;
 use vdm_tree::{Block, ClassDef, Expr, Spec, VariableItem};
 
@@ -33,13 +35,13 @@ impl TreeDesk {
         self.text = text;
     }
 
-    /// What `run` says of a specification.
+    /// What `run` says of a specification: its tree, read once more, where it is accepted.
     pub fn specification(&mut self, alloc: Global, text: &[u8]) -> Result<Spec, Halt<SpecFault>> {
         let mut names = names_at_first(alloc)?;
         let read = read_texts(alloc, text, ONE, &mut names);
         self.plain.names = names;
-        let (spec, _one) = read?;
-        Ok(spec)
+        let _accepted = read?;
+        parsed(alloc, text)
     }
 
     /// Reads the expression that stands next.
@@ -91,6 +93,16 @@ impl TreeDesk {
             }
         }
     }
+}
+
+// The tree of a specification that is accepted.
+fn parsed(alloc: Global, text: &[u8]) -> Result<Spec, Halt<SpecFault>> {
+    let mut names = names_at_first(alloc)?;
+    if names.len() > MOST_NAMES {
+        return Err(Halt::OutOfMemory);
+    }
+    let lexemes = lex(alloc, Part::Spec, text)?;
+    spec_of_tokens(alloc, text, &lexemes, &mut names)
 }
 
 fn names_at_first(alloc: Global) -> Result<Names, Halt<SpecFault>>

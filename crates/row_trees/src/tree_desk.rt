@@ -1,11 +1,11 @@
 // The desk, a specification and expressions.
 
-ghost use Rattle.std.specs.Prelude.{◌≤◌, length, IfSome};
-
 use row_desk::Desk;
 use row_exprs::grow;
 use row_words::Line;
 use std::alloc::Global;
+use std::mem;
+use text_reader::handed::spec_table::{ClassTable, table_of};
 use vdm_names::Names;
 use vdm_tree::{Expr, Spec};
 
@@ -14,7 +14,7 @@ use vdm_tree::{Expr, Spec};
 #[derive(Drop)]
 pub struct TreeDesk {
     pub plain: Desk,
-    pub spec: Spec,
+    pub(crate) spec: Spec,
     /// The text of the specification.
     pub text: Vec<u8>,
     pub trees: Vec<Expr>,
@@ -25,9 +25,7 @@ impl TreeDesk {
     pub fn new(alloc: Global, names: Names) -> TreeDesk {
         TreeDesk {
             plain: Desk::new(alloc, names),
-            spec: Spec {
-                classes: Vec::new(alloc),
-            },
+            spec: empty_spec(alloc),
             text: Vec::new(alloc),
             trees: Vec::new(alloc),
         }
@@ -55,18 +53,27 @@ impl TreeDesk {
         }
     }
 
-    /// The specification, unless it has several classes.
-    pub fn spec(&self) -> Option<&Spec>
-        ensures { IfSome result (λ spec. length spec.now.classes.items ≤ 1) }
-    {
-        if self.spec.classes.len() > 1 {
-            return None;
+    /// The table of the specification's classes. The desk gives the specification up for it.
+    pub fn take_table(&mut self, line: &mut Line<'_>) -> Option<ClassTable> {
+        let spec = mem::replace(&mut self.spec, empty_spec(line.alloc()));
+        match table_of(line.alloc(), spec) {
+            Ok(table) => Some(table),
+            Err(halt) => {
+                line.stop(halt);
+                None
+            }
         }
-        Some(&self.spec)
     }
 
     /// The last expression.
     pub fn tree(&self) -> Option<&Expr> {
         self.trees.last()
+    }
+}
+
+/// The specification of no classes.
+fn empty_spec(alloc: Global) -> Spec {
+    Spec {
+        classes: Vec::new(alloc),
     }
 }

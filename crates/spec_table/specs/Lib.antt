@@ -5,4 +5,3 @@ pub mod Members
 pub mod NoFault
 pub mod Ranked
 pub mod Tables
-pub mod TypeRanks

@@ -23,7 +23,7 @@ use Rattle.class_meaning.proofs.Refusals.{names_differ, members_differ}
 use Rattle.class_meaning.proofs.Settled.{types_settle}
 use Rattle.spec_table.specs.Among.{Among, among_map, among_mapped, among_flat, among_part, among_at, find_some, only_found, place_found, differ_or_same_by}
 use Rattle.spec_table.specs.Answering.{answers_first, same_both}
-use Rattle.spec_table.specs.TypeRanks.{stand_in, has_its_types, types_stand, finder, greatest, height, height_at, type_rank}
+use Rattle.member_meaning.specs.TypeRanks.{stand_in, has_its_types, types_stand, finder, greatest, height, height_at, type_rank}
 
 -- ---- heights fall
 

@@ -6,7 +6,7 @@ ghost use Rattle.ancestor_lines.specs.Lines.{IsOf};
 ghost use Rattle.found_members.specs.Resolved.{Resolves};
 ghost use Rattle.class_meaning.specs.Classes.{class_names as names_of_classes};
 ghost use Rattle.class_meaning.specs.Faults.{table_fault as first_of_faults};
-ghost use Rattle.spec_table.specs.TypeRanks.{types_stand as all_types_stand};
+ghost use Rattle.member_meaning.specs.TypeRanks.{types_stand as all_types_stand};
 ghost use Rattle.spec_table.specs.NoFault.{NoFault-prop};
 
 use ancestor_lines::Layouts;
@@ -47,7 +47,7 @@ impl Drop for ClassTable {
 }
 
 impl ClassTable {
-    ghost use Rattle.std.specs.Prelude.{ℕ, Some, IsSome};
+    ghost use Rattle.std.specs.Prelude.{ℕ, Some, IsSome, map};
     ghost use Rattle.vdm_tree.specs.ClassView.{class_view};
     ghost use Rattle.class_meaning.specs.Classes.{class_at, class_number};
     ghost use Rattle.spec_table.specs.Tables.{table_spec};
@@ -57,6 +57,13 @@ impl ClassTable {
         ensures { result.now ≡ names_of_classes (table_spec self.now) }
     {
         self.class_names.as_slice()
+    }
+
+    /// The specification whose table it is: the classes of its text in order, as they were read.
+    pub fn text_classes(&self) -> &[ClassDef]
+        ensures { map class_view result.now ≡ (table_spec self.now).classes }
+    {
+        self.list.text_classes()
     }
 
     /// The number of the class of a name, which is that of its class object. None where there is no such class.

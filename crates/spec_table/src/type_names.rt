@@ -9,7 +9,7 @@ ghost use Rattle.class_meaning.specs.Classes.{class_number};
 ghost use Rattle.class_meaning.specs.Found.{own_in, found_type, type_named, type_of};
 ghost use Rattle.class_meaning.specs.declared.ask.Ask.TheVariants.{AsType};
 ghost use Rattle.spec_table.specs.Members.{descends_from};
-ghost use Rattle.spec_table.specs.TypeRanks.{finder, type_rank};
+ghost use Rattle.member_meaning.specs.TypeRanks.{finder, type_rank};
 ghost use Rattle.spec_table.specs.Tables.{table_spec};
 ghost use Rattle.spec_table.specs.Ranked.{ranked};
 

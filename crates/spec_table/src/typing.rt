@@ -5,7 +5,7 @@ ghost use Rattle.std.specs.List.{list_all};
 ghost use Rattle.abstract_syntax.specs.Classes.{TypeDefTree, is_same_name};
 ghost use Rattle.expr_tree.specs.TypeDefView.{type_def_view};
 ghost use Rattle.vdm_tree.specs.ClassView.{class_view, block_view};
-ghost use Rattle.spec_table.specs.TypeRanks.{stand_in as block_stands, has_its_types as class_has_its_types};
+ghost use Rattle.member_meaning.specs.TypeRanks.{stand_in as block_stands, has_its_types as class_has_its_types};
 
 use expr_tree::TypeDef;
 use vdm_kinds::Name;

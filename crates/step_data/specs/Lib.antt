@@ -1,2 +1,2 @@
+pub mod Actions
 pub mod Parts
-pub mod Steps

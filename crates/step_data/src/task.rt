@@ -2,11 +2,12 @@
 
 ghost use Rattle.std.specs.Prelude.{◌≡◌};
 ghost use Rattle.vdm_kinds.specs.declared.run_fault.RunFault.TheVariants.{StepLimit};
-ghost use Rattle.vdm_meaning.specs.Faults.{fault_at};
-ghost use Rattle.vdm_meaning.specs.Tasks.{spent};
+ghost use Rattle.node_meaning.specs.Envs.{Locals};
+ghost use Rattle.node_meaning.specs.Faults.{fault_at};
+ghost use Rattle.node_meaning.specs.Tasks.{spent};
 ghost use Rattle.step_data.specs.Parts.{task_of};
 
-use crate::env::Env;
+use eval_data::Here;
 use vdm_kinds::Place;
 use vdm_tree::{Expr, Stmt};
 
@@ -14,16 +15,16 @@ use vdm_tree::{Expr, Stmt};
 #[derive(Clone, Copy)]
 pub enum Task<'t> {
     /// An expression, for its value.
-    Expr(Env<'t>, &'t Expr),
+    Expr(Here<'t>, &'t Expr),
     /// A call whose value is not wanted.
-    Call(Env<'t>, &'t Expr),
-    Stmt(Env<'t>, &'t Stmt),
+    Call(Here<'t>, &'t Expr),
+    Stmt(Here<'t>, &'t Stmt),
 }
 
 impl<'t> Task<'t> {
     /// Where the node fails that finds no unit left.
     pub fn place(self) -> Place
-        ensures { fault_at StepLimit result ≡ spent (task_of self.entry) }
+        ensures { (locals : Locals) → fault_at StepLimit result ≡ spent (task_of self.entry locals) }
     {
         match self {
             Task::Expr(_, tree) | Task::Call(_, tree) => tree.place(),

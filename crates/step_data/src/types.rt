@@ -1,16 +1,13 @@
 // Which values a declared type takes.
 
 ghost use Rattle.std.specs.Prelude.{◌≡◌};
-ghost use Rattle.vdm_kinds.specs.declared.basic_type.BasicType.TheVariants.{Nat};
-ghost use Rattle.vdm_kinds.specs.declared.place.Place.{Place};
-ghost use Rattle.abstract_syntax.specs.Types.{basic_type};
-ghost use Rattle.vdm_meaning.specs.Types.{fits, slot_fits, all_fit};
+ghost use Rattle.vdm_kinds.specs.declared.basic_type.BasicType.TheVariants.{Bool as Truth, Nat, Nat1, Int, Char};
+ghost use Rattle.node_meaning.specs.Types.{fits, fits_basic};
 ghost use Rattle.type_tree.specs.TypeView.{type_view};
-ghost use Rattle.class_table.specs.Tables.{variables_at};
 
 use vdm_kinds::BasicType;
-use vdm_tree::{TypeExpr, VarDef};
-use vdm_values::{Node, Slot, Value};
+use vdm_tree::TypeExpr;
+use vdm_values::{Node, Value};
 
 /// Whether the type takes the value.
 pub fn fits(declared: &TypeExpr, value: &Value) -> bool
@@ -24,17 +21,29 @@ pub fn fits(declared: &TypeExpr, value: &Value) -> bool
 
 /// Whether the type of a word takes the value.
 fn fits_basic(basic: BasicType, value: &Value) -> bool
-    ensures { (place : Place) → result ≡ fits (basic_type basic place) value.now }
+    ensures { result ≡ fits_basic basic value.now }
 {
     match basic {
+        BasicType::Bool => is_truth(value),
         BasicType::Nat => is_natural(value),
+        BasicType::Nat1 => is_positive(value),
+        BasicType::Int => is_number(value),
+        BasicType::Char => is_character(value),
+        BasicType::Token => false,
+    }
+}
+
+fn is_truth(value: &Value) -> bool
+    ensures { result ≡ fits_basic Truth value.now }
+{
+    match value.node() {
+        Node::Bool(_) => true,
         _ => false,
     }
 }
 
-/// Whether the value is a number from 0.
 fn is_natural(value: &Value) -> bool
-    ensures { (place : Place) → result ≡ fits (basic_type Nat place) value.now }
+    ensures { result ≡ fits_basic Nat value.now }
 {
     match value.node() {
         Node::Int(number) => *number >= 0,
@@ -42,29 +51,29 @@ fn is_natural(value: &Value) -> bool
     }
 }
 
-/// Whether the type takes what the slot holds, where it holds anything.
-fn slot_fits(declared: &TypeExpr, slot: &Slot) -> bool
-    ensures { result ≡ slot_fits (type_view declared.now) slot.now }
+fn is_positive(value: &Value) -> bool
+    ensures { result ≡ fits_basic Nat1 value.now }
 {
-    match slot {
-        Slot::Unset => true,
-        Slot::Held(value) => fits(declared, value),
+    match value.node() {
+        Node::Int(number) => *number >= 1,
+        _ => false,
     }
 }
 
-/// Whether the types of the variables take what their slots hold.
-pub fn all_fit(variables: &[&VarDef], slots: &[Slot]) -> bool
-    ensures { result ≡ all_fit (variables_at variables.now) slots.now }
+fn is_number(value: &Value) -> bool
+    ensures { result ≡ fits_basic Int value.now }
 {
-    let mut rest = slots;
-    for variable in variables {
-        let [slot, after @ ..] = rest else {
-            return true;
-        };
-        if !slot_fits(&variable.declared, slot) {
-            return false;
-        }
-        rest = after;
+    match value.node() {
+        Node::Int(_) => true,
+        _ => false,
     }
-    true
+}
+
+fn is_character(value: &Value) -> bool
+    ensures { result ≡ fits_basic Char value.now }
+{
+    match value.node() {
+        Node::Char(_) => true,
+        _ => false,
+    }
 }

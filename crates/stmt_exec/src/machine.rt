@@ -4,21 +4,23 @@ ghost use Rattle.std.specs.Prelude.{◌≡◌, ◌≢◌, ◌<◌, ◌≤◌, �
 ghost use Rattle.run_journal.specs.declared.answer.Answer.{Answer as AnswerView};
 ghost use Rattle.vdm_meaning.specs.Main.{asks, over as is_over, main_code};
 ghost use Rattle.expr_tree.specs.View.{view_of};
-ghost use Rattle.class_table.specs.Tables.{table_spec};
-ghost use Rattle.step_data.specs.Steps.{busy, height};
+ghost use Rattle.spec_table.specs.Tables.{table_spec};
+ghost use Rattle.step_data.specs.Actions.{busy, height};
 ghost use Rattle.stmt_exec.specs.Standing.{rest, rest_at, rest_weight, rank, load, stands_with, IsSpent};
 
-use class_table::Table;
-use main_steps::question_of;
+use call_steps::need::needed;
+use eval_data::{After, Flow, Need};
+use main_steps::{make_class_objects, question_of};
 use next_steps::{answered_of, plan_of, then_of};
 use plans::take_unit;
 use run_journal::{Answer, Question};
+use spec_table::ClassTable;
 use std::alloc::Global;
 use std::mem;
-use step_data::{Asking, Frame, Step, Task};
-use vdm_kinds::{OutOfMemory, Place, RunFault};
+use step_data::{Action, Asking, Task, Waiting};
+use vdm_kinds::{Name, OutOfMemory, Place, RunFault};
 use vdm_tree::Expr;
-use vdm_values::Slot;
+use vdm_values::{Slot, Value};
 
 /// Where a thread is at rest.
 #[derive(Drop)]
@@ -27,38 +29,59 @@ enum Rest<'t> {
     Asks(Asking<'t>),
     /// It is to fail with the fault at its place.
     Fails(RunFault, Place),
+    /// It is to fail because of an exit with this value, at this place.
+    Exits(Value, Place),
     Over,
     /// It met want of memory.
     Spent,
 }
 
 /// A thread that stands where its code stands after the answers that it was given.
-#[derive(Drop)]
 pub struct Machine<'t> {
-    table: &'t Table<'t>,
-    /// What is done with the results of the parts that are entered, the outermost first.
-    frames: Vec<Frame<'t>>,
+    table: &'t ClassTable,
+    /// What waits for what comes of the parts that are entered, the outermost first.
+    waiting: Vec<Waiting<'t>>,
+    /// The names that are bound where the thread stands, the newest last.
+    locals: Vec<(Name, Slot)>,
     rest: Rest<'t>,
     /// The units that are left.
     fuel: u64,
+}
+
+// A derived drop would be proved again in each crate that drops a machine.
+impl<'t> Drop for Machine<'t> {
+    fn drop(self) {
+        let Machine {
+            table: _,
+            waiting: _,
+            locals: _,
+            rest: _,
+            fuel: _,
+        } = self;
+    }
 }
 
 impl<'t> Machine<'t> {
     /// The machine of main, which makes the class objects, evaluates the expression and ends, with this many units.
     pub fn main(
         alloc: Global,
-        table: &'t Table<'t>,
+        table: &'t ClassTable,
         tree: &'t Expr,
         steps: u64,
     ) -> Result<Machine<'t>, OutOfMemory>
         ensures { IfOk result (λ m. (answers : List AnswerView) → rest m answers ≡ main_code (table_spec table.now) (view_of tree.now) steps answers) }
     {
-        Ok(Machine {
+        let mut machine = Machine {
             table,
-            frames: Vec::new(alloc),
-            rest: Rest::Asks(Asking::IoClass(table, tree)),
+            waiting: Vec::new(alloc),
+            locals: Vec::new(alloc),
+            rest: Rest::Spent,
             fuel: steps,
-        })
+        };
+        let action = make_class_objects(0, table.classes(), tree);
+        let rest = machine.run(alloc, action)?;
+        machine.set_rest(rest);
+        Ok(machine)
     }
 
     /// The question that the thread needs answered, the same until it is. Where memory is refused the machine is spent.
@@ -108,11 +131,8 @@ impl<'t> Machine<'t> {
     {
         match &self.rest {
             Rest::Asks(asking) => question_of(alloc, asking),
-            Rest::Fails(fault, place) => Ok(Question::Fail {
-                fault: *fault,
-                exit: Slot::Unset,
-                place: *place,
-            }),
+            Rest::Fails(fault, place) => Ok(failure(*fault, Slot::Unset, *place)),
+            Rest::Exits(value, place) => exit(alloc, value, *place),
             Rest::Over | Rest::Spent => Err(OutOfMemory),
         }
     }
@@ -124,36 +144,43 @@ impl<'t> Machine<'t> {
         rest: Rest<'t>,
         answer: Answer,
     ) -> Result<Rest<'t>, OutOfMemory>
-        ensures same { IfOk result (λ r. (answers : List AnswerView) → rest_at (table_spec self.old.table.now) self.new.frames.items self.new.fuel r answers ≡ rest_at (table_spec self.old.table.now) self.old.frames.items self.old.fuel rest.entry (answer ∷ answers)) }
-        ensures falls { IfOk result (λ r. load self.new.frames.items self.new.fuel (rest_weight r) < load self.old.frames.items self.old.fuel (rest_weight rest.entry)) }
+        ensures same { IfOk result (λ r. (answers : List AnswerView) → rest_at (table_spec self.old.table.now) self.new.waiting.items self.new.locals.items self.new.fuel r answers ≡ rest_at (table_spec self.old.table.now) self.old.waiting.items self.old.locals.items self.old.fuel rest.entry (answer ∷ answers)) }
+        ensures falls { IfOk result (λ r. load self.new.waiting.items self.new.fuel (rest_weight r) < load self.old.waiting.items self.old.fuel (rest_weight rest.entry)) }
         ensures table { self.new.table ≡ self.old.table }
         ensures rest { self.new.rest ≡ self.old.rest }
         ensures spent { rest.entry ≡ Rest.Spent → IsErr result }
     {
         match rest {
-            Rest::Asks(asking) => self.run(alloc, answered_of(asking, answer)),
+            Rest::Asks(asking) => {
+                let action = answered_of(alloc, &mut self.locals, asking, answer)?;
+                self.run(alloc, action)
+            }
             Rest::Fails(_, _) => Ok(Rest::Over),
+            Rest::Exits(_value, _) => Ok(Rest::Over),
             Rest::Over | Rest::Spent => Err(OutOfMemory),
         }
     }
 
-    /// Takes steps until the thread is at rest, and says where.
-    fn run(&mut self, alloc: Global, step: Step<'t>) -> Result<Rest<'t>, OutOfMemory>
-        ensures same { IfOk result (λ r. (answers : List AnswerView) → rest_at (table_spec self.old.table.now) self.new.frames.items self.new.fuel r answers ≡ stands_with self.old step.entry answers) }
-        ensures low { IfOk result (λ r. load self.new.frames.items self.new.fuel (rest_weight r) ≤ load self.old.frames.items self.old.fuel (height step.entry)) }
+    /// Acts until the thread is at rest, and says where.
+    fn run(&mut self, alloc: Global, action: Action<'t>) -> Result<Rest<'t>, OutOfMemory>
+        ensures same { IfOk result (λ r. (answers : List AnswerView) → rest_at (table_spec self.old.table.now) self.new.waiting.items self.new.locals.items self.new.fuel r answers ≡ stands_with self.old action.entry answers) }
+        ensures low { IfOk result (λ r. load self.new.waiting.items self.new.fuel (rest_weight r) ≤ load self.old.waiting.items self.old.fuel (height action.entry)) }
         ensures table { self.new.table ≡ self.old.table }
         ensures rest { self.new.rest ≡ self.old.rest }
     {
-        let mut step = step;
-        'steps: loop {
-            step = match step {
-                Step::Finish(flow) => match self.frames.pop() {
-                    Some(frame) => then_of(self.table, frame, flow)?,
-                    None => return Ok(Rest::Over),
+        let mut action = action;
+        'actions: loop {
+            action = match action {
+                Action::Finish(flow) => match self.waiting.pop() {
+                    Some(waiting) => then_of(alloc, self.table, &mut self.locals, waiting, flow)?,
+                    None => return Ok(over(flow)),
                 },
-                Step::Part(task, frame) => self.enter(alloc, task, frame)?,
-                Step::Fail(fault, place) => return Ok(Rest::Fails(fault, place)),
-                Step::Ask(asking) => return Ok(Rest::Asks(asking)),
+                Action::Part(task, waiting) => self.enter(alloc, task, waiting)?,
+                Action::Become(task) => self.begin(alloc, task)?,
+                Action::Need(need, place, after) => self.need(alloc, need, place, after)?,
+                Action::Fail(fault, place) => return Ok(Rest::Fails(fault, place)),
+                Action::Uncaught(value, place) => return Ok(Rest::Exits(value, place)),
+                Action::Ask(asking) => return Ok(Rest::Asks(asking)),
             };
         }
     }
@@ -164,26 +191,81 @@ impl<'t> Machine<'t> {
         self.rest = rest;
     }
 
-    /// Enters a node, which takes a unit or is spent.
+    /// Enters a node, which takes a unit or is spent; and lets what waits for it wait.
     fn enter(
         &mut self,
         alloc: Global,
         task: Task<'t>,
-        frame: Frame<'t>,
-    ) -> Result<Step<'t>, OutOfMemory>
-        ensures same { IfOk result (λ s. (answers : List AnswerView) → stands_with self.new s answers ≡ stands_with self.old (Step.Part task.entry frame.entry) answers) }
-        ensures low { IfOk result (λ s. load self.new.frames.items self.new.fuel (height s) ≤ load self.old.frames.items self.old.fuel 1) }
-        ensures falls { IfOk result (λ s. load self.new.frames.items self.new.fuel (busy s) < load self.old.frames.items self.old.fuel 1) }
+        waiting: Waiting<'t>,
+    ) -> Result<Action<'t>, OutOfMemory>
+        ensures same { IfOk result (λ a. (answers : List AnswerView) → stands_with self.new a answers ≡ stands_with self.old (Action.Part task.entry waiting.entry) answers) }
+        ensures low { IfOk result (λ a. load self.new.waiting.items self.new.fuel (height a) ≤ load self.old.waiting.items self.old.fuel 1) }
+        ensures falls { IfOk result (λ a. load self.new.waiting.items self.new.fuel (busy a) < load self.old.waiting.items self.old.fuel 1) }
         ensures table { self.new.table ≡ self.old.table }
         ensures rest { self.new.rest ≡ self.old.rest }
     {
         match take_unit(self.fuel) {
             Some(left) => {
                 self.fuel = left;
-                self.frames.push(frame)?;
-                plan_of(alloc, self.table, task)
+                self.waiting.push(waiting)?;
+                plan_of(alloc, self.table, &mut self.locals, task)
             }
-            None => Ok(Step::Fail(RunFault::StepLimit, task.place())),
+            None => Ok(Action::Fail(RunFault::StepLimit, task.place())),
         }
     }
+
+    /// Enters a node in the stead of another.
+    fn begin(&mut self, alloc: Global, task: Task<'t>) -> Result<Action<'t>, OutOfMemory>
+        ensures same { IfOk result (λ a. (answers : List AnswerView) → stands_with self.new a answers ≡ stands_with self.old (Action.Become task.entry) answers) }
+        ensures low { IfOk result (λ a. load self.new.waiting.items self.new.fuel (height a) ≤ load self.old.waiting.items self.old.fuel 1) }
+        ensures falls { IfOk result (λ a. load self.new.waiting.items self.new.fuel (busy a) < load self.old.waiting.items self.old.fuel 1) }
+        ensures table { self.new.table ≡ self.old.table }
+        ensures rest { self.new.rest ≡ self.old.rest }
+    {
+        match take_unit(self.fuel) {
+            Some(left) => {
+                self.fuel = left;
+                plan_of(alloc, self.table, &mut self.locals, task)
+            }
+            None => Ok(Action::Fail(RunFault::StepLimit, task.place())),
+        }
+    }
+
+    /// Goes after a need, and lets the node that has it wait.
+    fn need(
+        &mut self,
+        alloc: Global,
+        need: Need,
+        place: Place,
+        after: After,
+    ) -> Result<Action<'t>, OutOfMemory>
+        ensures same { IfOk result (λ a. (answers : List AnswerView) → stands_with self.new a answers ≡ stands_with self.old (Action.Need need place after) answers) }
+        ensures low { IfOk result (λ a. load self.new.waiting.items self.new.fuel (height a) ≤ load self.old.waiting.items self.old.fuel 5) }
+        ensures falls { IfOk result (λ a. load self.new.waiting.items self.new.fuel (busy a) < load self.old.waiting.items self.old.fuel 4) }
+        ensures table { self.new.table ≡ self.old.table }
+        ensures rest { self.new.rest ≡ self.old.rest }
+    {
+        self.waiting.push(Waiting::After(after, place))?;
+        needed(alloc, self.table, &mut self.locals, need, place)
+    }
+}
+
+/// What came of the whole plan is told by its last question.
+fn over<'t>(_flow: Flow) -> Rest<'t>
+    ensures { result ≡ Rest.Over }
+{
+    Rest::Over
+}
+
+fn failure(fault: RunFault, exit: Slot, place: Place) -> Question
+    ensures { result ≡ Question.Fail fault exit place }
+{
+    Question::Fail { fault, exit, place }
+}
+
+fn exit(alloc: Global, value: &Value, place: Place) -> Result<Question, OutOfMemory>
+    ensures { IfOk result (λ q. q ≡ Question.Fail RunFault.UncaughtExit (Slot.Held value.now) place) }
+{
+    let value = value.copy(alloc)?;
+    Ok(failure(RunFault::UncaughtExit, Slot::Held(value), place))
 }

@@ -1,4 +1,10 @@
 //! What statements do.
 #![tactic(auto)]
 
-pub mod statement;
+mod assignment;
+mod sequence;
+mod statements;
+
+pub use assignment::{assigned, written};
+pub use sequence::{called, return_value, unless_ended};
+pub use statements::statement;

@@ -8,7 +8,7 @@ use Rattle.vdm_kinds.specs.declared.place.Place.{Place}
 use Rattle.vdm_kinds.specs.declared.spec_fault.SpecFault.{SpecFault}
 use Rattle.vdm_lexer.specs.Lexemes.{lexemes}
 use Rattle.spec_checks.specs.Threads.{run_fault}
-use Rattle.text_phases.specs.Built.{or_behind, left_out, unbuilt_fault, unbuilt_in_class, unbuilt_in_classes, unbuilt_in_spec, unbuilt_in_expr}
+use Rattle.text_phases.specs.Built.{or_behind, left_out_at, unbuilt_fault, unbuilt_in_class, unbuilt_in_classes, unbuilt_in_spec, unbuilt_in_expr}
 use Rattle.text_phases.specs.Phases.{Read, unless_refused, main_checks_fault, parsed_expr, accepted_expr, IsAccepted}
 
 -- ---- a second class is not built
@@ -33,7 +33,7 @@ first_none : {A : Type 0} (first behind : Option A) → or_behind first behind �
 first_none None behind e = refl
 first_none (Some a) behind e = absurd (cc)
 
-nothing_left : (place : Option Place) → left_out place ≡ None → place ≡ None
+nothing_left : (place : Option Place) → left_out_at place ≡ None → place ≡ None
 nothing_left None e = refl
 nothing_left (Some place) e = absurd (cc)
 

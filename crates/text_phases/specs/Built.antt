@@ -3,31 +3,88 @@ use Rattle.std.specs.Prelude.{◌≡◌, Bool, true, false, not, ◌&&◌, nat_e
 use Rattle.vdm_kinds.specs.declared.access.Access.{Access}
 use Rattle.vdm_kinds.specs.declared.access.Level.{Level}
 use Rattle.vdm_kinds.specs.declared.access.Level.TheVariants.{Private, Protected, Public}
-use Rattle.vdm_kinds.specs.declared.basic_type.BasicType.TheVariants.{Nat}
+use Rattle.vdm_kinds.specs.declared.basic_type.BasicType.TheVariants.{Token}
 use Rattle.vdm_kinds.specs.declared.name.Name.{Name}
 use Rattle.vdm_kinds.specs.declared.name_at.NameAt.{NameAt}
 use Rattle.vdm_kinds.specs.declared.place.Place.{Place}
-use Rattle.vdm_kinds.specs.declared.sign.Sign.TheVariants.{Plus}
 use Rattle.vdm_kinds.specs.declared.spec_fault.SpecFault.{SpecFault}
 use Rattle.vdm_kinds.specs.declared.spec_kind.SpecKind.TheVariants.{LeftOut}
 use Rattle.vdm_lexer.specs.Lexemes.{fault_at}
-use Rattle.abstract_syntax.specs.Literals.{whole_literal}
 use Rattle.abstract_syntax.specs.Types.{TypeTree, basic_type, type_place}
 use Rattle.abstract_syntax.specs.Expressions.{
   ExprTree,
   ExprTrees,
+  MaybeExpr,
+  MapletTrees,
+  DefinedTrees,
+  BranchTrees,
+  CaseTrees,
+  BindTree,
+  BindTrees,
   PatternTree,
+  PatternTrees,
+  MapletPatterns,
   literal,
   named,
+  undefined,
+  bracketed,
+  prefixed,
   joined,
+  set_enumeration,
+  set_range,
+  set_comprehension,
+  empty_map,
+  map_enumeration,
+  map_comprehension,
+  sequence_enumeration,
+  sequence_comprehension,
+  make_tuple,
+  make_token,
   create,
   apply,
   subsequence,
   select,
   select_of_class,
   select_part,
+  let_in,
+  let_be,
+  def_in,
+  if_else,
+  cases_of,
+  for_all,
+  exists_some,
+  exists_one,
+  iota_of,
   no_exprs,
   one_expr,
+  left_out,
+  given_expr,
+  no_maplets,
+  one_maplet,
+  no_defined,
+  one_defined,
+  no_branches,
+  one_branch,
+  no_cases,
+  one_case,
+  bind_in,
+  no_binds,
+  one_bind,
+  any_value,
+  bound,
+  literal_pattern,
+  equal_to,
+  set_pattern,
+  sequence_pattern,
+  map_pattern,
+  empty_map_pattern,
+  tuple_pattern,
+  record_pattern,
+  concatenation_pattern,
+  no_patterns,
+  one_pattern,
+  no_maplet_patterns,
+  one_maplet_pattern,
   expr_place,
   pattern_place,
 }
@@ -81,19 +138,7 @@ or_behind (Some found) behind = Some found
 abbrev pub unless : Bool → Place → Option Place
 unless built place = if built then None else Some place
 
--- ---- expressions
-
--- The first node that is not built, where `own` tells it of a node by itself and of what stands right of it. A node whose place is
--- behind its first token is looked at behind its left part.
-abbrev pub first_unbuilt : (ExprTree → Option Place) → ExprTree → Option Place
-first_unbuilt own (joined left sign right place) = or_behind (first_unbuilt own left) (own (joined left sign right place))
-first_unbuilt own (apply head arguments place) = or_behind (first_unbuilt own head) (own (apply head arguments place))
-first_unbuilt own (subsequence target first last place) = or_behind (first_unbuilt own target) (own (subsequence target first last place))
-first_unbuilt own (select target name name_place place) = or_behind (first_unbuilt own target) (own (select target name name_place place))
-first_unbuilt own (select_of_class target class class_place name name_place place) =
-    or_behind (first_unbuilt own target) (own (select_of_class target class class_place name name_place place))
-first_unbuilt own (select_part target number place) = or_behind (first_unbuilt own target) (own (select_part target number place))
-first_unbuilt own tree = own tree
+-- ---- expressions and patterns
 
 -- the place of the leftmost node, built or not
 abbrev pub expr_first : ExprTree → Place
@@ -105,67 +150,135 @@ expr_first (select_of_class target class class_place name name_place place) = ex
 expr_first (select_part target number place) = expr_first target
 expr_first tree = expr_place tree
 
--- of an initial value a whole literal
-abbrev pub in_initial : ExprTree → Option Place
-in_initial (literal (whole_literal n) place) = None
-in_initial tree = Some (expr_place tree)
-
--- of a term a whole literal and a name
-abbrev pub in_term : ExprTree → Option Place
-in_term (literal (whole_literal n) place) = None
-in_term (named name place) = None
-in_term tree = Some (expr_place tree)
-
--- of a sum the terms, and a `+` with a term on its right
-abbrev pub in_sum : ExprTree → Option Place
-in_sum (literal (whole_literal n) place) = None
-in_sum (named name place) = None
-in_sum (joined left Plus right place) = first_unbuilt in_term right
-in_sum tree = Some (expr_place tree)
-
--- no argument is built
+-- no argument of a new object is built
 abbrev pub in_arguments : ExprTrees → Option Place
 in_arguments no_exprs = None
 in_arguments (one_expr argument others) = Some (expr_first argument)
 
--- of what is called a name, and its application to no argument
-abbrev pub in_call : ExprTree → Option Place
-in_call (named name place) = None
-in_call (apply (named name name_place) arguments place) = in_arguments arguments
-in_call tree = Some (expr_place tree)
+abbrev pub has_none : ExprTrees → Bool
+has_none no_exprs = true
+has_none (one_expr argument others) = false
 
-abbrev pub unbuilt_in_sum : ExprTree → Option Place
-unbuilt_in_sum tree = first_unbuilt in_sum tree
+-- no type of what a `let` defines is built
+abbrev pub unbuilt_in_declared : Option TypeTree → Option Place
+unbuilt_in_declared None = None
+unbuilt_in_declared (Some declared) = Some (type_place declared)
+
+abbrev mutual
+  -- The first node that is not built, in text order: a selection is looked at behind what it selects from, and is built only where it
+  -- is called without arguments; what is not built and not listed here is looked at before its parts.
+  pub first_unbuilt : (called : Bool) → ExprTree → Option Place
+  first_unbuilt called (literal value place) = None
+  first_unbuilt called (named name place) = None
+  first_unbuilt called (undefined place) = None
+  first_unbuilt called (bracketed inner place) = first_unbuilt false inner
+  first_unbuilt called (prefixed sign operand place) = first_unbuilt false operand
+  first_unbuilt called (joined left sign right place) = or_behind (first_unbuilt false left) (first_unbuilt false right)
+  first_unbuilt called (set_enumeration elements place) = unbuilt_in_exprs elements
+  first_unbuilt called (set_range first last place) = or_behind (first_unbuilt false first) (first_unbuilt false last)
+  first_unbuilt called (set_comprehension element binds condition place) =
+      or_behind (first_unbuilt false element) (or_behind (unbuilt_in_binds binds) (unbuilt_in_maybe condition))
+  first_unbuilt called (empty_map place) = None
+  first_unbuilt called (map_enumeration pairs place) = unbuilt_in_maplets pairs
+  first_unbuilt called (map_comprehension key value binds condition place) =
+      or_behind (first_unbuilt false key)
+      (or_behind (first_unbuilt false value) (or_behind (unbuilt_in_binds binds) (unbuilt_in_maybe condition)))
+  first_unbuilt called (sequence_enumeration items place) = unbuilt_in_exprs items
+  first_unbuilt called (sequence_comprehension item pattern set condition place) =
+      or_behind (first_unbuilt false item)
+      (or_behind (unbuilt_in_pattern pattern) (or_behind (first_unbuilt false set) (unbuilt_in_maybe condition)))
+  first_unbuilt called (make_tuple parts place) = unbuilt_in_exprs parts
+  first_unbuilt called (make_token inner place) = first_unbuilt false inner
+  first_unbuilt called (create class class_place arguments place) = in_arguments arguments
+  first_unbuilt called (apply head arguments place) = or_behind (first_unbuilt (has_none arguments) head) (unbuilt_in_exprs arguments)
+  first_unbuilt called (subsequence target first last place) =
+      or_behind (first_unbuilt false target) (or_behind (first_unbuilt false first) (first_unbuilt false last))
+  first_unbuilt called (select target name name_place place) = or_behind (first_unbuilt false target) (unless called place)
+  first_unbuilt called (select_of_class target class class_place name name_place place) = or_behind (first_unbuilt false target) (Some place)
+  first_unbuilt called (select_part target number place) = first_unbuilt false target
+  first_unbuilt called (let_in definitions body place) = or_behind (unbuilt_in_defined definitions) (first_unbuilt false body)
+  first_unbuilt called (let_be bind condition body place) =
+      or_behind (unbuilt_in_bind bind) (or_behind (unbuilt_in_maybe condition) (first_unbuilt false body))
+  first_unbuilt called (def_in pattern value body place) =
+      or_behind (unbuilt_in_pattern pattern) (or_behind (first_unbuilt false value) (first_unbuilt false body))
+  first_unbuilt called (if_else condition value elseifs otherwise place) =
+      or_behind (first_unbuilt false condition)
+      (or_behind (first_unbuilt false value) (or_behind (unbuilt_in_branches elseifs) (first_unbuilt false otherwise)))
+  first_unbuilt called (cases_of subject cases others place) =
+      or_behind (first_unbuilt false subject) (or_behind (unbuilt_in_cases cases) (unbuilt_in_maybe others))
+  first_unbuilt called (for_all binds condition place) = or_behind (unbuilt_in_binds binds) (first_unbuilt false condition)
+  first_unbuilt called (exists_some binds condition place) = or_behind (unbuilt_in_binds binds) (first_unbuilt false condition)
+  first_unbuilt called (exists_one bind condition place) = or_behind (unbuilt_in_bind bind) (first_unbuilt false condition)
+  first_unbuilt called (iota_of bind condition place) = or_behind (unbuilt_in_bind bind) (first_unbuilt false condition)
+  first_unbuilt called tree = Some (expr_place tree)
+
+  -- that of the first that has one; so with all lists
+  pub unbuilt_in_exprs : ExprTrees → Option Place
+  unbuilt_in_exprs no_exprs = None
+  unbuilt_in_exprs (one_expr e es) = or_behind (first_unbuilt false e) (unbuilt_in_exprs es)
+
+  pub unbuilt_in_maybe : MaybeExpr → Option Place
+  unbuilt_in_maybe left_out = None
+  unbuilt_in_maybe (given_expr e) = first_unbuilt false e
+
+  pub unbuilt_in_maplets : MapletTrees → Option Place
+  unbuilt_in_maplets no_maplets = None
+  unbuilt_in_maplets (one_maplet key value pairs) =
+      or_behind (first_unbuilt false key) (or_behind (first_unbuilt false value) (unbuilt_in_maplets pairs))
+
+  pub unbuilt_in_defined : DefinedTrees → Option Place
+  unbuilt_in_defined no_defined = None
+  unbuilt_in_defined (one_defined pattern declared value definitions) =
+      or_behind (unbuilt_in_pattern pattern)
+      (or_behind (unbuilt_in_declared declared) (or_behind (first_unbuilt false value) (unbuilt_in_defined definitions)))
+
+  pub unbuilt_in_branches : BranchTrees → Option Place
+  unbuilt_in_branches no_branches = None
+  unbuilt_in_branches (one_branch condition value others) =
+      or_behind (first_unbuilt false condition) (or_behind (first_unbuilt false value) (unbuilt_in_branches others))
+
+  pub unbuilt_in_cases : CaseTrees → Option Place
+  unbuilt_in_cases no_cases = None
+  unbuilt_in_cases (one_case patterns value cases) =
+      or_behind (unbuilt_in_patterns patterns) (or_behind (first_unbuilt false value) (unbuilt_in_cases cases))
+
+  pub unbuilt_in_bind : BindTree → Option Place
+  unbuilt_in_bind (bind_in patterns set) = or_behind (unbuilt_in_patterns patterns) (first_unbuilt false set)
+
+  pub unbuilt_in_binds : BindTrees → Option Place
+  unbuilt_in_binds no_binds = None
+  unbuilt_in_binds (one_bind bind binds) = or_behind (unbuilt_in_bind bind) (unbuilt_in_binds binds)
+
+  -- no record pattern is built
+  pub unbuilt_in_pattern : PatternTree → Option Place
+  unbuilt_in_pattern (any_value place) = None
+  unbuilt_in_pattern (bound name place) = None
+  unbuilt_in_pattern (literal_pattern value place) = None
+  unbuilt_in_pattern (equal_to inner place) = first_unbuilt false inner
+  unbuilt_in_pattern (set_pattern elements place) = unbuilt_in_patterns elements
+  unbuilt_in_pattern (sequence_pattern items place) = unbuilt_in_patterns items
+  unbuilt_in_pattern (map_pattern maplets place) = unbuilt_in_maplet_patterns maplets
+  unbuilt_in_pattern (empty_map_pattern place) = None
+  unbuilt_in_pattern (tuple_pattern parts place) = unbuilt_in_patterns parts
+  unbuilt_in_pattern (record_pattern type_name fields place) = Some place
+  unbuilt_in_pattern (concatenation_pattern parts place) = unbuilt_in_patterns parts
+
+  pub unbuilt_in_patterns : PatternTrees → Option Place
+  unbuilt_in_patterns no_patterns = None
+  unbuilt_in_patterns (one_pattern p ps) = or_behind (unbuilt_in_pattern p) (unbuilt_in_patterns ps)
+
+  pub unbuilt_in_maplet_patterns : MapletPatterns → Option Place
+  unbuilt_in_maplet_patterns no_maplet_patterns = None
+  unbuilt_in_maplet_patterns (one_maplet_pattern key value maplets) =
+      or_behind (unbuilt_in_pattern key) (or_behind (unbuilt_in_pattern value) (unbuilt_in_maplet_patterns maplets))
+
+abbrev pub unbuilt_in_expr : ExprTree → Option Place
+unbuilt_in_expr tree = first_unbuilt false tree
 
 -- a call statement is an application
 abbrev pub unbuilt_in_call : ExprTree → Option Place
-unbuilt_in_call (named name place) = Some place
-unbuilt_in_call tree = first_unbuilt in_call tree
-
--- arguments where none is built, at the bracket
-abbrev pub unless_empty : ExprTrees → Place → Option Place
-unless_empty no_exprs place = None
-unless_empty (one_expr argument others) place = Some place
-
--- a new object without arguments, and what is selected from one
-abbrev pub is_new : ExprTree → Bool
-is_new (create class class_place no_exprs place) = true
-is_new _ = false
-
-abbrev pub is_of_new : ExprTree → Bool
-is_of_new (select target name name_place place) = is_new target
-is_of_new _ = false
-
--- The command's expression is a sum, or `new C().op()`; what stands right of such a call is not built.
-abbrev pub unbuilt_in_expr : ExprTree → Option Place
-unbuilt_in_expr (apply head arguments place) =
-    if is_of_new head then unless_empty arguments place else or_behind (unbuilt_in_expr head) (Some place)
-unbuilt_in_expr (select target name name_place place) =
-    if is_new target then Some place else or_behind (unbuilt_in_expr target) (Some place)
-unbuilt_in_expr (subsequence target first last place) = or_behind (unbuilt_in_expr target) (Some place)
-unbuilt_in_expr (select_of_class target class class_place name name_place place) = or_behind (unbuilt_in_expr target) (Some place)
-unbuilt_in_expr (select_part target number place) = or_behind (unbuilt_in_expr target) (Some place)
-unbuilt_in_expr tree = unbuilt_in_sum tree
+unbuilt_in_call (apply head arguments place) = unbuilt_in_expr (apply head arguments place)
+unbuilt_in_call tree = Some (expr_place tree)
 
 -- ---- statements
 
@@ -187,7 +300,7 @@ unbuilt_in_locals (dcl ∷ dcls) = Some dcl.place
 abbrev mutual
   -- where no `return` may stand: an assignment, a call, and a block of these
   pub unbuilt_in_stmt : StmtTree → Option Place
-  unbuilt_in_stmt (assign target value place) = or_behind (unbuilt_in_target target) (unbuilt_in_sum value)
+  unbuilt_in_stmt (assign target value place) = or_behind (unbuilt_in_target target) (unbuilt_in_expr value)
   unbuilt_in_stmt (call application place) = unbuilt_in_call application
   unbuilt_in_stmt (block locals statements place) = or_behind (unbuilt_in_locals locals) (unbuilt_in_stmts statements)
   unbuilt_in_stmt statement = Some (stmt_place statement)
@@ -198,7 +311,7 @@ abbrev mutual
 
 -- where a `return` has to stand: one with a value
 abbrev pub unbuilt_in_return : StmtTree → Option Place
-unbuilt_in_return (returns (Some value) place) = unbuilt_in_sum value
+unbuilt_in_return (returns (Some value) place) = unbuilt_in_expr value
 unbuilt_in_return statement = Some (stmt_place statement)
 
 -- statements of which the last has to be a `return`, in a block at this place
@@ -215,9 +328,10 @@ unbuilt_in_block statement = Some (stmt_place statement)
 
 -- ---- variables and operations
 
--- the one type is `nat`
+-- the types are `bool`, `nat`, `nat1`, `int` and `char`
 abbrev pub unbuilt_in_type : TypeTree → Option Place
-unbuilt_in_type (basic_type Nat place) = None
+unbuilt_in_type (basic_type Token place) = Some place
+unbuilt_in_type (basic_type basic place) = None
 unbuilt_in_type declared = Some (type_place declared)
 
 abbrev pub is_same_place : Place → Place → Bool
@@ -230,7 +344,7 @@ lacks_initial (Some value) place = None
 
 abbrev pub unbuilt_in_initial : Option ExprTree → Option Place
 unbuilt_in_initial None = None
-unbuilt_in_initial (Some value) = first_unbuilt in_initial value
+unbuilt_in_initial (Some value) = unbuilt_in_expr value
 
 -- a variable begins with its name, with no word of access, and has an initial value
 abbrev pub unbuilt_in_variable : VariableTree → Option Place
@@ -267,9 +381,9 @@ abbrev pub unbuilt_in_parameters : List TypeTree → Option Place
 unbuilt_in_parameters [] = None
 unbuilt_in_parameters (parameter ∷ parameters) = Some (type_place parameter)
 
-abbrev pub unbuilt_in_patterns : List PatternTree → Option Place
-unbuilt_in_patterns [] = None
-unbuilt_in_patterns (pattern ∷ patterns) = Some (pattern_place pattern)
+abbrev pub unbuilt_in_parameter_patterns : List PatternTree → Option Place
+unbuilt_in_parameter_patterns [] = None
+unbuilt_in_parameter_patterns (pattern ∷ patterns) = Some (pattern_place pattern)
 
 abbrev pub unbuilt_in_result : Option TypeTree → Option Place
 unbuilt_in_result None = None
@@ -296,7 +410,7 @@ unbuilt_in_head class o =
     or_behind (unless (is_public o.access && not (is_constructor class o)) o.place)
     (or_behind (lacks_body o.body o.place)
     (or_behind (unbuilt_in_parameters o.parameters)
-    (or_behind (unbuilt_in_result o.result_type) (unbuilt_in_patterns o.patterns))))
+    (or_behind (unbuilt_in_result o.result_type) (unbuilt_in_parameter_patterns o.patterns))))
 
 -- behind it stand the body, and no condition
 abbrev pub unbuilt_behind_head : OperationTree → Option Place
@@ -357,12 +471,12 @@ abbrev pub unbuilt_in_spec : SpecTree → Option Place
 unbuilt_in_spec spec = unbuilt_in_classes spec.classes
 
 -- what has no meaning yet of a specification and an expression behind it is left out
-abbrev pub left_out : Option Place → Option SpecFault
-left_out None = None
-left_out (Some place) = Some (fault_at LeftOut place)
+abbrev pub left_out_at : Option Place → Option SpecFault
+left_out_at None = None
+left_out_at (Some place) = Some (fault_at LeftOut place)
 
 abbrev pub unbuilt_fault : SpecTree → ExprTree → Option SpecFault
-unbuilt_fault spec tree = left_out (or_behind (unbuilt_in_spec spec) (unbuilt_in_expr tree))
+unbuilt_fault spec tree = left_out_at (or_behind (unbuilt_in_spec spec) (unbuilt_in_expr tree))
 
 -- all of it is built
 abbrev pub IsBuilt : SpecTree → Type 0

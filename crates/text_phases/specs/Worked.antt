@@ -8,7 +8,7 @@ use Rattle.vdm_kinds.specs.declared.place.Place.{Place}
 use Rattle.vdm_kinds.specs.declared.sign.Sign.{Sign}
 use Rattle.abstract_syntax.specs.Literals.{whole_literal, boolean_literal}
 use Rattle.abstract_syntax.specs.Types.{TypeTree, basic_type}
-use Rattle.abstract_syntax.specs.Expressions.{ExprTree, ExprTrees, literal, named, joined, create, apply, select, no_exprs, one_expr}
+use Rattle.abstract_syntax.specs.Expressions.{ExprTree, ExprTrees, PatternTree, BindTrees, literal, named, joined, create, apply, select, no_exprs, one_expr, bind_in, no_binds, one_bind, record_pattern, no_patterns, one_pattern}
 use Rattle.abstract_syntax.specs.Statements.{variable, StmtTree, StmtTrees, assign, call, block, returns, no_stmts, one_stmt}
 use Rattle.abstract_syntax.specs.Classes.{VariableTree, variable_item, written, OperationTree, BlockTree, variables, operations, ClassTree, SpecTree}
 
@@ -57,6 +57,13 @@ an_argument column = one_expr (one column) no_exprs
 -- `new C().op()` from column 1 on: the dot in 8, the bracket in 11
 abbrev pub call_of_new : ExprTrees → ExprTree
 call_of_new arguments = applied (selected (new_of no_exprs 1) op 8) arguments 11
+
+-- a record pattern of a type of one letter, from this column on
+abbrev pub record_at : ℕ → PatternTree
+record_at column = record_pattern (record { class = None; name = op; name_place = at column }) no_patterns (at column)
+
+abbrev pub a_bind : PatternTree → ExprTree → BindTrees
+a_bind pattern set = one_bind (bind_in (one_pattern pattern no_patterns) set) no_binds
 
 -- ---- statements
 

@@ -6,5 +6,6 @@ mod worked;
 
 pub use laws::{one_answer, one_class, one_specification, phases_follow};
 pub use worked::{
-    built_classes, built_expressions, built_operations, refused_behind, refused_in_turn,
+    built_bindings, built_classes, built_expressions, built_operations, refused_behind,
+    refused_in_turn,
 };

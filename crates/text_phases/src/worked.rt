@@ -2,62 +2,84 @@
 
 ghost use Rattle.std.specs.Prelude.{◌≡◌, true, false, [], ◌∷◌, Some, None};
 ghost use Rattle.vdm_kinds.specs.declared.access.Level.TheVariants.{Protected};
-ghost use Rattle.vdm_kinds.specs.declared.basic_type.BasicType.TheVariants.{Int};
-ghost use Rattle.vdm_kinds.specs.declared.sign.Sign.TheVariants.{Plus, Minus, Times};
+ghost use Rattle.vdm_kinds.specs.declared.basic_type.BasicType.TheVariants.{Char, Int, Nat, Token};
+ghost use Rattle.vdm_kinds.specs.declared.counter.Counter.TheVariants.{Finishes};
+ghost use Rattle.vdm_kinds.specs.declared.sign.Sign.TheVariants.{Plus, Minus, Negative};
 ghost use Rattle.vdm_kinds.specs.declared.spec_kind.SpecKind.TheVariants.{LeftOut, UnknownName, Duplicate};
 ghost use Rattle.vdm_lexer.specs.Lexemes.{fault_at};
 ghost use Rattle.abstract_syntax.specs.Types.{basic_type, bracketed_type};
-ghost use Rattle.abstract_syntax.specs.Expressions.{bracketed, prefixed, no_exprs};
+ghost use Rattle.abstract_syntax.specs.Expressions.{self_object, current_time, bracketed, prefixed, set_comprehension, map_enumeration, is_of_basic, history, select_of_class, let_in, let_be, def_in, if_else, cases_of, for_all, no_exprs, one_expr, left_out, given_expr, no_maplets, one_maplet, no_defined, one_defined, no_branches, one_branch, no_cases, one_case, bind_in, any_value, bound, equal_to, map_pattern, tuple_pattern, no_patterns, one_pattern, no_maplet_patterns, one_maplet_pattern};
 ghost use Rattle.abstract_syntax.specs.Statements.{variable, variable_of_class, element_at, field_of, assign, call, block, returns, skips, no_stmts};
 ghost use Rattle.abstract_syntax.specs.Classes.{variable_item, invariant_item, not_yet_specified, types, variables, operations};
 ghost use Rattle.text_phases.specs.Built.{unbuilt_in_expr, unbuilt_in_initial, unbuilt_in_stmt, unbuilt_in_variable, unbuilt_in_operation, unbuilt_in_spec};
 ghost use Rattle.text_phases.specs.Phases.{checks_fault, main_checks_fault};
-ghost use Rattle.text_phases.specs.Worked.{at, name, class_name, n, op, one, truth, use_of, sign_between, applied, selected, new_of, an_argument, call_of_new, in_block, set_to, call_to, gives, nat_type, a_variable, an_operation, a_class, spec_of, spec_with, spec_over};
+ghost use Rattle.text_phases.specs.Worked.{at, name, class_name, n, op, one, truth, use_of, sign_between, applied, selected, new_of, an_argument, call_of_new, a_bind, record_at, in_block, set_to, call_to, gives, nat_type, a_variable, an_operation, a_class, spec_of, spec_with, spec_over};
 
-/// Expressions of the command, and initial values.
+/// Expressions: what is called, selected and made.
 pub fn built_expressions()
-    ensures minus { unbuilt_in_expr (sign_between (one 1) Minus 3 (one 5)) ≡ Some (at 3) }
-    ensures truth { unbuilt_in_expr (sign_between (truth 1) Plus 6 (one 8)) ≡ Some (at 1) }
-    ensures brackets { unbuilt_in_expr (bracketed (one 2) (at 1)) ≡ Some (at 1) }
+    ensures time { unbuilt_in_expr (current_time (at 1)) ≡ Some (at 1) }
+    ensures me_in_brackets { unbuilt_in_expr (bracketed (self_object (at 2)) (at 1)) ≡ Some (at 2) }
+    ensures counter { unbuilt_in_expr (sign_between (one 1) Plus 3 (history Finishes [] (at 5))) ≡ Some (at 5) }
+    ensures test { unbuilt_in_expr (is_of_basic Nat (self_object (at 8)) (at 1)) ≡ Some (at 1) }
     ensures selection { unbuilt_in_expr (selected (use_of n 1) op 2) ≡ Some (at 2) }
-    ensures on_the_right { unbuilt_in_expr (sign_between (one 1) Plus 3 (bracketed (one 6) (at 5))) ≡ Some (at 5) }
-    ensures product_first { unbuilt_in_expr (sign_between (sign_between (one 1) Times 3 (one 5)) Plus 7 (one 9)) ≡ Some (at 3) }
-    ensures product_last { unbuilt_in_expr (sign_between (one 1) Plus 3 (sign_between (one 5) Times 7 (one 9))) ≡ Some (at 7) }
-    ensures new_with_argument { unbuilt_in_expr (applied (selected (new_of (an_argument 7) 1) op 9) no_exprs 12) ≡ Some (at 1) }
-    ensures new_alone { unbuilt_in_expr (new_of no_exprs 1) ≡ Some (at 1) }
-    ensures argument { unbuilt_in_expr (call_of_new (an_argument 12)) ≡ Some (at 11) }
-    ensures selected { unbuilt_in_expr (selected (new_of no_exprs 1) n 8) ≡ Some (at 8) }
-    ensures called_again { unbuilt_in_expr (applied (selected (call_of_new no_exprs) op 13) no_exprs 16) ≡ Some (at 13) }
-    ensures added { unbuilt_in_expr (sign_between (one 1) Plus 3 (new_of no_exprs 5)) ≡ Some (at 5) }
-    ensures applied { unbuilt_in_expr (applied (use_of op 1) no_exprs 3) ≡ Some (at 3) }
+    ensures on_the_right { unbuilt_in_expr (sign_between (one 1) Plus 3 (selected (use_of n 5) op 6)) ≡ Some (at 6) }
+    ensures in_what_is_selected { unbuilt_in_expr (selected (self_object (at 1)) op 5) ≡ Some (at 1) }
+    ensures selected_of_new { unbuilt_in_expr (selected (new_of no_exprs 1) n 8) ≡ Some (at 8) }
+    ensures called_again { unbuilt_in_expr (applied (selected (call_of_new no_exprs) op 13) no_exprs 16) ≡ None }
+    ensures called_with_argument { unbuilt_in_expr (call_of_new (an_argument 12)) ≡ Some (at 8) }
+    ensures called_in_brackets { unbuilt_in_expr (applied (bracketed (selected (use_of n 2) op 3) (at 1)) no_exprs 7) ≡ Some (at 3) }
+    ensures called_of_class { unbuilt_in_expr (applied (select_of_class (use_of n 1) class_name (at 3) op (at 5) (at 2)) no_exprs 7) ≡ Some (at 2) }
+    ensures argument { unbuilt_in_expr (applied (use_of op 1) (one_expr (one 4) (one_expr (current_time (at 7)) no_exprs)) 3) ≡ Some (at 7) }
+    ensures head_first { unbuilt_in_expr (applied (selected (use_of n 1) op 2) (one_expr (current_time (at 6)) no_exprs) 5) ≡ Some (at 2) }
+    ensures new_with_argument { unbuilt_in_expr (applied (selected (new_of (an_argument 7) 1) op 9) no_exprs 12) ≡ Some (at 7) }
+    ensures new_with_sum { unbuilt_in_expr (new_of (one_expr (sign_between (one 7) Minus 9 (one 11)) no_exprs) 1) ≡ Some (at 7) }
     ensures called { unbuilt_in_expr (call_of_new no_exprs) ≡ None }
-    ensures sum { unbuilt_in_expr (sign_between (sign_between (one 1) Plus 3 (use_of n 5)) Plus 7 (one 9)) ≡ None }
-    ensures initial_sign { unbuilt_in_initial (Some (prefixed Minus (one 3) (at 1))) ≡ Some (at 1) }
-    ensures initial_sum { unbuilt_in_initial (Some (sign_between (one 1) Plus 3 (one 5))) ≡ Some (at 3) }
-    ensures initial_name { unbuilt_in_initial (Some (use_of n 1)) ≡ Some (at 1) }
-    ensures initial { unbuilt_in_initial (Some (one 1)) ≡ None }
+    ensures difference { unbuilt_in_expr (sign_between (truth 1) Minus 6 (bracketed (use_of n 9) (at 8))) ≡ None }
+    ensures initial { unbuilt_in_initial (Some (prefixed Negative (current_time (at 3)) (at 1))) ≡ Some (at 3) }
+    ensures no_initial { unbuilt_in_initial None ≡ None }
+{}
+
+/// What is bound and what is chosen.
+pub fn built_bindings()
+    ensures element_first { unbuilt_in_expr (set_comprehension (current_time (at 2)) (a_bind (record_at 6) (current_time (at 20))) left_out (at 1)) ≡ Some (at 2) }
+    ensures pattern_next { unbuilt_in_expr (set_comprehension (use_of n 2) (a_bind (record_at 6) (current_time (at 20))) left_out (at 1)) ≡ Some (at 6) }
+    ensures set_next { unbuilt_in_expr (set_comprehension (use_of n 2) (a_bind (bound n (at 6)) (current_time (at 20))) (given_expr (self_object (at 30))) (at 1)) ≡ Some (at 20) }
+    ensures condition_last { unbuilt_in_expr (set_comprehension (use_of n 2) (a_bind (bound n (at 6)) (use_of n 20)) (given_expr (self_object (at 30))) (at 1)) ≡ Some (at 30) }
+    ensures in_pattern { unbuilt_in_expr (for_all (a_bind (tuple_pattern (one_pattern (bound n (at 9)) (one_pattern (equal_to (self_object (at 13)) (at 12)) no_patterns)) (at 6)) (use_of n 20)) (truth 30) (at 1)) ≡ Some (at 13) }
+    ensures in_map_pattern { unbuilt_in_expr (def_in (map_pattern (one_maplet_pattern (bound n (at 6)) (record_at 12) no_maplet_patterns) (at 5)) (use_of n 20) (truth 30) (at 1)) ≡ Some (at 12) }
+    ensures typed { unbuilt_in_expr (let_in (one_defined (bound n (at 5)) (Some nat_type) (current_time (at 30)) no_defined) (one 40) (at 1)) ≡ Some (at 20) }
+    ensures untyped { unbuilt_in_expr (let_in (one_defined (bound n (at 5)) None (one 30) (one_defined (bound op (at 33)) (Some nat_type) (one 37) no_defined)) (self_object (at 40)) (at 1)) ≡ Some (at 20) }
+    ensures body { unbuilt_in_expr (let_in (one_defined (bound n (at 5)) None (one 30) no_defined) (self_object (at 40)) (at 1)) ≡ Some (at 40) }
+    ensures chosen { unbuilt_in_expr (if_else (truth 4) (one 10) (one_branch (truth 20) (current_time (at 30)) no_branches) (self_object (at 40)) (at 1)) ≡ Some (at 30) }
+    ensures alternatives { unbuilt_in_expr (cases_of (use_of n 7) (one_case (one_pattern (bound op (at 10)) (one_pattern (record_at 14) no_patterns)) (current_time (at 20)) no_cases) (given_expr (self_object (at 40))) (at 1)) ≡ Some (at 14) }
+    ensures others { unbuilt_in_expr (cases_of (use_of n 7) (one_case (one_pattern (bound op (at 10)) no_patterns) (one 20) no_cases) (given_expr (self_object (at 40))) (at 1)) ≡ Some (at 40) }
+    ensures maplet { unbuilt_in_expr (map_enumeration (one_maplet (one 2) (one 8) (one_maplet (one 11) (self_object (at 17)) no_maplets)) (at 1)) ≡ Some (at 17) }
+    ensures choice { unbuilt_in_expr (let_be (bind_in (one_pattern (any_value (at 5)) no_patterns) (use_of n 14)) left_out (one 20) (at 1)) ≡ None }
 {}
 
 /// Statements and operations.
 pub fn built_operations()
     ensures skip { unbuilt_in_stmt (skips (at 1)) ≡ Some (at 1) }
-    ensures step { unbuilt_in_stmt (assign (variable n (element_at (one 3) (at 2) ∷ []) (at 1)) (truth 8) (at 1)) ≡ Some (at 2) }
+    ensures step { unbuilt_in_stmt (assign (variable n (element_at (one 3) (at 2) ∷ []) (at 1)) (current_time (at 8)) (at 1)) ≡ Some (at 2) }
     ensures other_class { unbuilt_in_stmt (assign (variable_of_class class_name n (at 3) [] (at 1)) (one 8) (at 1)) ≡ Some (at 1) }
-    ensures value { unbuilt_in_stmt (set_to n (truth 6) 1) ≡ Some (at 6) }
-    ensures argument { unbuilt_in_stmt (call (applied (use_of op 1) (an_argument 4) 3) (at 1)) ≡ Some (at 4) }
-    ensures head { unbuilt_in_stmt (call (applied (selected (use_of n 1) op 2) no_exprs 5) (at 1)) ≡ Some (at 2) }
-    ensures twice { unbuilt_in_stmt (call (applied (applied (use_of op 1) no_exprs 3) no_exprs 5) (at 1)) ≡ Some (at 5) }
-    ensures nested { unbuilt_in_stmt (in_block (set_to n (one 7) 2 ∷ in_block (call_to op 11 ∷ skips (at 17) ∷ []) 10 ∷ []) 1) ≡ Some (at 17) }
+    ensures value { unbuilt_in_stmt (set_to n (current_time (at 6)) 1) ≡ Some (at 6) }
+    ensures argument { unbuilt_in_stmt (call (applied (use_of op 1) (one_expr (current_time (at 4)) no_exprs) 3) (at 1)) ≡ Some (at 4) }
+    ensures head { unbuilt_in_stmt (call (applied (selected (self_object (at 1)) op 5) no_exprs 8) (at 1)) ≡ Some (at 1) }
+    ensures on_another { unbuilt_in_stmt (call (applied (selected (use_of n 1) op 2) no_exprs 5) (at 1)) ≡ None }
+    ensures twice { unbuilt_in_stmt (call (applied (applied (use_of op 1) no_exprs 3) no_exprs 5) (at 1)) ≡ None }
+    ensures nested { unbuilt_in_stmt (in_block (set_to n (truth 7) 2 ∷ in_block (call_to op 11 ∷ skips (at 17) ∷ []) 10 ∷ []) 1) ≡ Some (at 17) }
     ensures returned { unbuilt_in_spec (spec_with None (in_block (gives (one 59) 52 ∷ []) 51)) ≡ Some (at 52) }
     ensures no_block { unbuilt_in_spec (spec_with (Some nat_type) (gives (one 58) 51)) ≡ Some (at 51) }
     ensures no_return { unbuilt_in_spec (spec_with (Some nat_type) (in_block (call_to op 52 ∷ []) 51)) ≡ Some (at 52) }
     ensures early { unbuilt_in_spec (spec_with (Some nat_type) (in_block (gives (one 59) 52 ∷ gives (one 69) 62 ∷ []) 51)) ≡ Some (at 52) }
     ensures no_value { unbuilt_in_spec (spec_with (Some nat_type) (in_block (returns None (at 52) ∷ []) 51)) ≡ Some (at 52) }
-    ensures at_its_end { unbuilt_in_spec (spec_with (Some nat_type) (in_block (call_to op 52 ∷ gives (one 65) 58 ∷ []) 51)) ≡ None }
-    ensures other_type { unbuilt_in_spec (spec_with (Some (basic_type Int (at 44))) (skips (at 60))) ≡ Some (at 44) }
+    ensures at_its_end { unbuilt_in_spec (spec_with (Some nat_type) (in_block (call_to op 52 ∷ gives (truth 65) 58 ∷ []) 51)) ≡ None }
+    ensures in_value { unbuilt_in_spec (spec_with (Some nat_type) (in_block (gives (self_object (at 59)) 52 ∷ []) 51)) ≡ Some (at 59) }
+    ensures token { unbuilt_in_spec (spec_with (Some (basic_type Token (at 44))) (skips (at 60))) ≡ Some (at 44) }
+    ensures other_type { unbuilt_in_spec (spec_with (Some (basic_type Char (at 44))) (skips (at 60))) ≡ Some (at 60) }
     ensures private { unbuilt_in_operation class_name (record (an_operation op None (skips (at 60)) 30) { access = record { is_static = false; level = Protected } })
         ≡ Some (at 30) }
-    ensures no_body { unbuilt_in_operation class_name (record (an_operation op (Some (basic_type Int (at 44))) (skips (at 60)) 30) { body = not_yet_specified })
+    ensures no_body { unbuilt_in_operation class_name (record (an_operation op (Some (basic_type Token (at 44))) (skips (at 60)) 30) { body = not_yet_specified })
         ≡ Some (at 30) }
     ensures constructor { unbuilt_in_operation class_name (an_operation class_name None (call_to op 60) 30) ≡ Some (at 30) }
     ensures condition { unbuilt_in_operation class_name (record (an_operation op None (call_to op 60) 30) { pre = Some (sign_between (one 70) Minus 72 (one 74)) })
@@ -67,7 +89,9 @@ pub fn built_operations()
 /// Variables, blocks and classes.
 pub fn built_classes()
     ensures access_word { unbuilt_in_variable (record (a_variable n 37) { place = at 30 }) ≡ Some (at 30) }
-    ensures no_initial { unbuilt_in_variable (record (a_variable n 30) { declared = basic_type Int (at 34); initial = None }) ≡ Some (at 30) }
+    ensures no_initial { unbuilt_in_variable (record (a_variable n 30) { declared = basic_type Token (at 34); initial = None }) ≡ Some (at 30) }
+    ensures token { unbuilt_in_variable (record (a_variable n 30) { declared = basic_type Token (at 34) }) ≡ Some (at 34) }
+    ensures whole_number { unbuilt_in_variable (record (a_variable n 30) { declared = basic_type Int (at 34) }) ≡ None }
     ensures brackets { unbuilt_in_variable (record (a_variable n 30) { declared = bracketed_type nat_type (at 34) }) ≡ Some (at 34) }
     ensures invariant { unbuilt_in_spec (spec_of (variables (invariant_item (truth 34) (at 30) ∷ []) (at 9) ∷ [])) ≡ Some (at 30) }
     ensures empty_block { unbuilt_in_spec (spec_of (variables [] (at 9) ∷ [])) ≡ Some (at 9) }
@@ -101,7 +125,7 @@ pub fn refused_in_turn()
 pub fn refused_behind()
     ensures unknown { main_checks_fault (spec_over None (skips (at 82))) (sign_between (one 1) Plus 3 (use_of n 5)) ≡ Some (fault_at UnknownName (at 5)) }
     ensures not_built { main_checks_fault (spec_over None (skips (at 82))) (sign_between (one 1) Minus 3 (one 5)) ≡ Some (fault_at LeftOut (at 82)) }
-    ensures expression { main_checks_fault (spec_over None (call_to op 82)) (sign_between (one 1) Minus 3 (one 5)) ≡ Some (fault_at LeftOut (at 3)) }
+    ensures expression { main_checks_fault (spec_over None (call_to op 82)) (sign_between (one 1) Minus 3 (current_time (at 5))) ≡ Some (fault_at LeftOut (at 5)) }
     ensures sum { main_checks_fault (spec_over None (call_to op 82)) (sign_between (one 1) Plus 3 (one 5)) ≡ None }
     ensures called { main_checks_fault (spec_over None (call_to op 82)) (call_of_new no_exprs) ≡ None }
     ensures no_class { main_checks_fault (record { classes = [] }) (call_of_new no_exprs) ≡ Some (fault_at UnknownName (at 5)) }

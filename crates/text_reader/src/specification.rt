@@ -54,7 +54,7 @@ fn check(alloc: Global, spec: Spec) -> Result<Checked, Halt<SpecFault>>
 
 /// The tree of a specification's text, and its names behind the built-in ones; or the first fault of its lexemes and its grammar.
 /// Want of memory is told apart. Whatever comes, the names that there were stay in front.
-pub(crate) fn parse_specification(
+fn parse_specification(
     alloc: Global,
     text: &[u8],
     names: &mut Names,

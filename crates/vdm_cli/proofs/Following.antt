@@ -6,11 +6,10 @@ use Rattle.abstract_syntax.specs.Expressions.{ExprTree}
 use Rattle.run_journal.specs.declared.entry.Entry.{Entry}
 use Rattle.vdm_kinds.specs.declared.spec_fault.SpecFault.{SpecFault}
 use Rattle.text_phases.specs.Phases.{IsAccepted, first_refusal}
-use Rattle.vdm_meaning.specs.Main.{step_limit}
 use Rattle.vdm_legal.specs.Order.{IsInOrder}
 use Rattle.vdm_legal.specs.Finishes.{Finish, finish_of}
 use Rattle.vdm_meaning.specs.Runs.{IsRun}
-use Rattle.report_texts.specs.Words.{Command, check, run, IsCommand, IsNoCommand}
+use Rattle.report_texts.specs.Words.{Limits, Command, check, run, IsCommand, IsNoCommand}
 use Rattle.report_texts.proofs.Commands.{one_command}
 use Rattle.vdm_report.specs.declared.end.End.{End}
 use Rattle.vdm_report.specs.declared.end.End.TheVariants.{Ended, Checked, Refused, Usage, Failed, ReadFault}
@@ -66,26 +65,34 @@ entries-by : (call : Call) → KeepsJournal call → (before : Option (List ℕ)
 entries-by call k None e = k.silent e
 entries-by call k (Some told) e = elim (k.told told e) [ inl none ↦ inl none | inr r ↦ inr (told, r.1) ]
 
--- the words' text is one
+-- the words' text is one, and so are their limits
 abbrev text_in : Command → List ℕ
 text_in check = []
-text_in (run text log) = text
+text_in (run text limits log) = text
 
-same_text : (words : List (List ℕ)) (a b : List ℕ) → RunsText words a → RunsText words b → a ≡ b
-same_text words a b p q = ap text_in (one_command words (run a p.0) (run b q.0) p.1 q.1)
+abbrev limits_in : Limits → Command → Limits
+limits_in other check = other
+limits_in other (run text limits log) = limits
 
-accepted_text : (call : Call) (told text : List ℕ) (r : RunsOf call told) → RunsText call.words text → IsAccepted told text r.names r.runs.tree r.runs.expression
-accepted_text call told text r p =
-    subst (λ t. IsAccepted told t r.names r.runs.tree r.runs.expression) (same_text call.words r.text text r.command p) r.runs.accepted
+same_text : (words : List (List ℕ)) (a b : List ℕ) (l m : Limits) → RunsText words a l → RunsText words b m → a ≡ b
+same_text words a b l m p q = ap text_in (one_command words (run a l p.0) (run b m q.0) p.1 q.1)
 
-pub journal_is_the_run : (call : Call) (told text : List ℕ) (names : List (List ℕ)) (tree : SpecTree) (expression : ExprTree) → KeepsJournal call → call.source.before ≡ Some told → RunsText call.words text → IsAccepted told text names tree expression → IsRun tree expression step_limit call.report.journal × IsInOrder tree call.report.journal
-journal_is_the_run call told text names tree expression k e p h =
+same_limits : (words : List (List ℕ)) (a b : List ℕ) (l m : Limits) → RunsText words a l → RunsText words b m → l ≡ m
+same_limits words a b l m p q = ap (limits_in l) (one_command words (run a l p.0) (run b m q.0) p.1 q.1)
+
+accepted_text : (call : Call) (told text : List ℕ) (limits : Limits) (r : RunsOf call told) → RunsText call.words text limits → IsAccepted told text r.names r.runs.tree r.runs.expression
+accepted_text call told text limits r p =
+    subst (λ t. IsAccepted told t r.names r.runs.tree r.runs.expression) (same_text call.words r.text text r.limits limits r.command p) r.runs.accepted
+
+pub journal_is_the_run : (call : Call) (told text : List ℕ) (limits : Limits) (names : List (List ℕ)) (tree : SpecTree) (expression : ExprTree) → KeepsJournal call → call.source.before ≡ Some told → RunsText call.words text limits → IsAccepted told text names tree expression → IsRun tree expression limits.steps call.report.journal × IsInOrder tree call.report.journal
+journal_is_the_run call told text limits names tree expression k e p h =
     elim (k.told told e) [
-      | inl none ↦ (subst (IsRun tree expression step_limit) (sym none) tt, subst (IsInOrder tree) (sym none) tt)
+      | inl none ↦ (subst (IsRun tree expression limits.steps) (sym none) tt, subst (IsInOrder tree) (sym none) tt)
       | inr r ↦
           let own = r.1.runs in
-          let same = one_accepted told text r.1.names names own.tree tree own.expression expression (accepted_text call told text r.1 p) h in (
-            subst (λ x. IsRun tree x step_limit call.report.journal) same.1 (subst (λ t. IsRun t own.expression step_limit call.report.journal) same.0 own.run_of),
+          let same = one_accepted told text r.1.names names own.tree tree own.expression expression (accepted_text call told text limits r.1 p) h in
+          let units = same_limits call.words r.1.text text r.1.limits limits r.1.command p in (
+            subst (λ l. IsRun tree expression l.steps call.report.journal) units (subst (λ x. IsRun tree x r.1.limits.steps call.report.journal) same.1 (subst (λ t. IsRun t own.expression r.1.limits.steps call.report.journal) same.0 own.run_of)),
             subst (λ t. IsInOrder t call.report.journal) same.0 own.order,
           )
     ]
@@ -94,14 +101,14 @@ pub empty_no_command : (call : Call) → KeepsJournal call → IsNoCommand call.
 empty_no_command call k faulty =
     elim (entries-by call k call.source.before refl) [
       | inl none ↦ none
-      | inr r ↦ absurd (faulty (run r.1.text r.1.command.0) r.1.command.1)
+      | inr r ↦ absurd (faulty (run r.1.text r.1.limits r.1.command.0) r.1.command.1)
     ]
 
-pub empty_no_trees : (call : Call) (told text : List ℕ) (fault : SpecFault) → KeepsJournal call → call.source.before ≡ Some told → RunsText call.words text → first_refusal told text ≡ Some fault → call.report.journal ≡ []
-empty_no_trees call told text fault k e p f =
+pub empty_no_trees : (call : Call) (told text : List ℕ) (limits : Limits) (fault : SpecFault) → KeepsJournal call → call.source.before ≡ Some told → RunsText call.words text limits → first_refusal told text ≡ Some fault → call.report.journal ≡ []
+empty_no_trees call told text limits fault k e p f =
     elim (k.told told e) [
       | inl none ↦ none
-      | inr r ↦ absurd (not_both told text fault r.1.names r.1.runs.tree r.1.runs.expression f (accepted_text call told text r.1 p))
+      | inr r ↦ absurd (not_both told text fault r.1.names r.1.runs.tree r.1.runs.expression f (accepted_text call told text limits r.1 p))
     ]
 
 pub empty_unread : (call : Call) (told : List ℕ) → KeepsJournal call → call.source.before ≡ Some told → call.source.after ≢ Some [] → call.report.journal ≡ []
@@ -124,7 +131,7 @@ pub empty_check : (call : Call) → KeepsJournal call → IsCommand call.words c
 empty_check call k c =
     elim (entries-by call k call.source.before refl) [
       | inl none ↦ none
-      | inr r ↦ absurd (let same = one_command call.words check (run r.1.text r.1.command.0) c r.1.command.1 in cc)
+      | inr r ↦ absurd (let same = one_command call.words check (run r.1.text r.1.limits r.1.command.0) c r.1.command.1 in cc)
     ]
 
 pub empty_checked : (call : Call) (classes : ℕ) → KeepsOutput call → call.report.end ≡ Checked classes → call.report.journal ≡ []

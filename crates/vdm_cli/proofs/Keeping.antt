@@ -7,7 +7,7 @@ use Rattle.abstract_syntax.specs.Expressions.{ExprTree}
 use Rattle.run_journal.specs.declared.entry.Entry.{Entry}
 use Rattle.vdm_kinds.specs.declared.spec_fault.SpecFault.{SpecFault}
 use Rattle.text_phases.specs.Phases.{IsAccepted, IsChecked, spec_limit}
-use Rattle.report_texts.specs.Words.{Command, check, run, IsCommand, IsNoCommand, asks_log}
+use Rattle.report_texts.specs.Words.{Limits, Command, check, run, IsCommand, IsNoCommand, asks_log}
 use Rattle.report_texts.proofs.Commands.{one_command}
 use Rattle.vdm_report.specs.declared.end.End.{End}
 use Rattle.vdm_report.specs.declared.end.End.TheVariants.{Ended, Refused, Usage, Failed, ReadFault, WriteFault, OutOfMemory}
@@ -120,16 +120,16 @@ refusal_meant source spec command names journal fault OutOfMemory calm f m = inr
 refusal_meant source spec command names journal fault meant calm f m = absurd m.2
 
 -- where both texts are accepted, an end of a run or want of memory is meant
-run_meant : (source : Outside) (spec text : List ℕ) (log : Bool) (told : List ℕ) (all names : List (List ℕ)) (journal : List Entry) (tree : SpecTree) (expression : ExprTree) (meant : End) → (IsFaulty source → ⊥) → source.before ≡ Some told → IsAccepted told text all tree expression → MeansCommand source spec (run text log) names journal meant → IsSome (finish_in meant) ⊎ (meant ≡ OutOfMemory)
-run_meant source spec text log told all names journal tree expression (Ended slot) calm e h m = inl refl
-run_meant source spec text log told all names journal tree expression (Failed g exit thread place) calm e h m = inl refl
-run_meant source spec text log told all names journal tree expression (Checked classes) calm e h m = absurd m.2.0
-run_meant source spec text log told all names journal tree expression (Refused g) calm e h m =
+run_meant : (source : Outside) (spec text : List ℕ) (limits : Limits) (log : Bool) (told : List ℕ) (all names : List (List ℕ)) (journal : List Entry) (tree : SpecTree) (expression : ExprTree) (meant : End) → (IsFaulty source → ⊥) → source.before ≡ Some told → IsAccepted told text all tree expression → MeansCommand source spec (run text limits log) names journal meant → IsSome (finish_in meant) ⊎ (meant ≡ OutOfMemory)
+run_meant source spec text limits log told all names journal tree expression (Ended slot) calm e h m = inl refl
+run_meant source spec text limits log told all names journal tree expression (Failed g exit thread place) calm e h m = inl refl
+run_meant source spec text limits log told all names journal tree expression (Checked classes) calm e h m = absurd m.2.0
+run_meant source spec text limits log told all names journal tree expression (Refused g) calm e h m =
     let same = read_whole source spec told e m.1 (short told (h.first, tree) h.specification) in
-    absurd (not_both told text g all tree expression (subst (λ x. refusal_of (run text log) x ≡ Some g) same m.2.0) h)
-run_meant source spec text log told all names journal tree expression ReadFault calm e h m = absurd (calm m.0)
-run_meant source spec text log told all names journal tree expression OutOfMemory calm e h m = inr refl
-run_meant source spec text log told all names journal tree expression meant calm e h m = absurd m.2
+    absurd (not_both told text g all tree expression (subst (λ x. refusal_of (run text limits log) x ≡ Some g) same m.2.0) h)
+run_meant source spec text limits log told all names journal tree expression ReadFault calm e h m = absurd (calm m.0)
+run_meant source spec text limits log told all names journal tree expression OutOfMemory calm e h m = inr refl
+run_meant source spec text limits log told all names journal tree expression meant calm e h m = absurd m.2
 
 -- where the specification is accepted that is checked, its classes or want of memory is meant
 check_meant : (source : Outside) (spec told : List ℕ) (names : List (List ℕ)) (journal : List Entry) (tree : SpecTree) (meant : End) → (IsFaulty source → ⊥) → source.before ≡ Some told → IsChecked told tree → MeansCommand source spec check names journal meant → (meant ≡ Checked (length tree.classes)) ⊎ (meant ≡ OutOfMemory)
@@ -212,8 +212,8 @@ module _ (call : Call) (spec : List ℕ) (names : List (List ℕ)) (meant : End)
         let t = finished_by call.words call.report.log call.source spec names call.report.journal meant g m in
         let all = read_to_end call.source spec told e t.1.1.0 (run_short t.0 spec names call.report.journal t.1.1.1) in
         (all.0, subst (AcceptsTexts call.words) all.1 (accepts_by call.words t.0 spec names call.report.journal t.1.0 t.1.1.1));
-    finishes = λ told text all tree expression e p calm h.
-        elim (run_meant call.source spec text p.0 told all names call.report.journal tree expression meant calm e h (means_command call.words call.report.log call.source spec names call.report.journal meant (run text p.0) p.1 m)) [
+    finishes = λ told text limits all tree expression e p calm h.
+        elim (run_meant call.source spec text limits p.0 told all names call.report.journal tree expression meant calm e h (means_command call.words call.report.log call.source spec names call.report.journal meant (run text limits p.0) p.1 m)) [
           | inl f ↦ stands_for_finish call.report.end meant f stands
           | inr is ↦ stands_for_memory call.report.end (subst (StandsFor call.report.end) is stands)
         ];

@@ -1,3 +1,5 @@
+pub mod Options
+pub mod Choosing
 pub mod AcceptedSpecs
 pub mod Refusals
 pub mod RunTexts

@@ -57,28 +57,28 @@ same_count spec tree classes h c = c.count ∙ ap (λ (t : SpecTree). length t.c
 
 pub run_unrefused : (command : Command) (spec : List ℕ) (names : List (List ℕ)) (journal : List Entry) (fault : SpecFault) → RunsBy command spec names journal → refusal_of command spec ≡ Some fault → ⊥
 run_unrefused check spec names journal fault r f = absurd r
-run_unrefused (run text log) spec names journal fault r f = not_both spec text fault names r.tree r.expression f r.accepted
+run_unrefused (run text limits log) spec names journal fault r f = not_both spec text fault names r.tree r.expression f r.accepted
 
 pub count_unrefused : (command : Command) (spec : List ℕ) (classes : ℕ) (fault : SpecFault) → ChecksBy command spec classes → refusal_of command spec ≡ Some fault → ⊥
 count_unrefused check spec classes fault c f = not_checked spec fault c.tree f c.accepted
-count_unrefused (run text log) spec classes fault c f = absurd c
+count_unrefused (run text limits log) spec classes fault c f = absurd c
 
 pub run_short : (command : Command) (spec : List ℕ) (names : List (List ℕ)) (journal : List Entry) → RunsBy command spec names journal → length spec ≤ spec_limit
 run_short check spec names journal r = absurd r
-run_short (run text log) spec names journal r = short spec (r.accepted.first, r.tree) r.accepted.specification
+run_short (run text limits log) spec names journal r = short spec (r.accepted.first, r.tree) r.accepted.specification
 
 pub count_short : (command : Command) (spec : List ℕ) (classes : ℕ) → ChecksBy command spec classes → length spec ≤ spec_limit
 count_short check spec classes c = short spec (c.accepted.names, c.tree) c.accepted.specification
-count_short (run text log) spec classes c = absurd c
+count_short (run text limits log) spec classes c = absurd c
 
 pub accepts_by : (words : List (List ℕ)) (command : Command) (spec : List ℕ) (names : List (List ℕ)) (journal : List Entry) → IsCommand words command → RunsBy command spec names journal → AcceptsTexts words spec
 accepts_by words check spec names journal c r = absurd r
-accepts_by words (run text log) spec names journal c r = (text, names, r.tree, r.expression, (log, c), r.accepted)
+accepts_by words (run text limits log) spec names journal c r = (text, limits, names, r.tree, r.expression, (log, c), r.accepted)
 
 pub counts_by : (words : List (List ℕ)) (command : Command) (spec : List ℕ) (classes : ℕ) → IsCommand words command → ChecksBy command spec classes → ChecksSpec words spec classes
 counts_by words check spec classes c h = (c, h)
-counts_by words (run text log) spec classes c h = absurd h
+counts_by words (run text limits log) spec classes c h = absurd h
 
 pub runs_of : (call : Call) (spec : List ℕ) (names : List (List ℕ)) (command : Command) → IsCommand call.words command → RunsBy command spec names call.report.journal → RunsOf call spec
 runs_of call spec names check c r = absurd r
-runs_of call spec names (run text log) c r = record { text = text; names = names; command = (log, c); runs = r }
+runs_of call spec names (run text limits log) c r = record { text = text; limits = limits; names = names; command = (log, c); runs = r }

@@ -1,32 +1,23 @@
 -- What the run of accepted texts, and the check of a specification, say of them.
-use Rattle.std.specs.Prelude.{◌≡◌, ℕ, ◌≤◌, Bool, List, length}
+use Rattle.std.specs.Prelude.{◌≡◌, ℕ, Bool, List}
 use Rattle.std.proofs.Common.{subst, inl, inr}
-use Rattle.std.proofs.lemmas.List.{length-map}
 use Rattle.abstract_syntax.specs.Classes.{SpecTree}
 use Rattle.abstract_syntax.specs.Expressions.{ExprTree}
 use Rattle.run_journal.specs.declared.entry.Entry.{Entry}
 use Rattle.text_phases.specs.Phases.{IsAccepted}
-use Rattle.report_texts.specs.Words.{Command, run}
-use Rattle.vdm_tree.specs.declared.spec.Spec.{Spec}
-use Rattle.vdm_tree.specs.ClassView.{class_view, spec_view}
+use Rattle.report_texts.specs.Words.{Limits, Command, run}
 use Rattle.vdm_report.specs.declared.end.End.{End}
 use Rattle.vdm_report.specs.declared.end.End.TheVariants.{Ended, Failed, ReadFault, OutOfMemory}
 use Rattle.vdm_report.specs.Outside.{Outside, IsCalm}
 use Rattle.vdm_cli.specs.Meant.{WasRead, MeansTexts, MeansCommand}
 use Rattle.vdm_cli.specs.RunEnds.{RunsTo}
-use Rattle.text_phases.proofs.Classes.{one_class}
-
--- an accepted specification has no class, or one
-pub few_classes : (spec_text text : List ℕ) (names : List (List ℕ)) (spec : Spec) (expression : ExprTree) → IsAccepted spec_text text names (spec_view spec) expression → length spec.classes.items ≤ 1
-few_classes spec_text text names spec expression h =
-    subst (λ n. n ≤ 1) (length-map spec.classes.items class_view) (one_class spec_text text names (spec_view spec) expression h)
 
 -- the run of accepted texts is what they mean
-pub means_texts : (spec text : List ℕ) (log : Bool) (names : List (List ℕ)) (tree : SpecTree) (expression : ExprTree) (journal : List Entry) (end : End) → IsAccepted spec text names tree expression → RunsTo tree expression journal end → MeansTexts (run text log) spec names journal end
-means_texts spec text log names tree expression journal (Ended slot) h r = (record { tree = tree; expression = expression; accepted = h; run_of = r.run; order = r.order }, r.ends)
-means_texts spec text log names tree expression journal (Failed fault exit thread place) h r = (record { tree = tree; expression = expression; accepted = h; run_of = r.run; order = r.order }, r.ends)
-means_texts spec text log names tree expression journal OutOfMemory h r = inr (record { tree = tree; expression = expression; accepted = h; run_of = r.run; order = r.order })
-means_texts spec text log names tree expression journal end h r = absurd r.ends
+pub means_texts : (spec text : List ℕ) (limits : Limits) (log : Bool) (names : List (List ℕ)) (tree : SpecTree) (expression : ExprTree) (journal : List Entry) (end : End) → IsAccepted spec text names tree expression → RunsTo tree expression limits.steps journal end → MeansTexts (run text limits log) spec names journal end
+means_texts spec text limits log names tree expression journal (Ended slot) h r = (record { tree = tree; expression = expression; accepted = h; run_of = r.run; order = r.order }, r.ends)
+means_texts spec text limits log names tree expression journal (Failed fault exit thread place) h r = (record { tree = tree; expression = expression; accepted = h; run_of = r.run; order = r.order }, r.ends)
+means_texts spec text limits log names tree expression journal OutOfMemory h r = inr (record { tree = tree; expression = expression; accepted = h; run_of = r.run; order = r.order })
+means_texts spec text limits log names tree expression journal end h r = absurd r.ends
 
 -- what the texts mean is what the command means, where no read failed
 means_command : (source : Outside) (spec : List ℕ) (command : Command) (names : List (List ℕ)) (journal : List Entry) (end : End) → IsCalm source → WasRead source spec → MeansTexts command spec names journal end → MeansCommand source spec command names journal end

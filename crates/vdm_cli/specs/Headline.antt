@@ -5,7 +5,7 @@ use Rattle.abstract_syntax.specs.Classes.{SpecTree}
 use Rattle.abstract_syntax.specs.Expressions.{ExprTree}
 use Rattle.vdm_kinds.specs.declared.spec_fault.SpecFault.{SpecFault}
 use Rattle.text_phases.specs.Phases.{IsAccepted, IsChecked, spec_limit}
-use Rattle.report_texts.specs.Words.{Command, check, run, IsCommand, IsNoCommand, asks_log}
+use Rattle.report_texts.specs.Words.{Limits, Command, check, run, IsCommand, IsNoCommand, asks_log}
 use Rattle.vdm_report.specs.declared.end.End.{End}
 use Rattle.vdm_report.specs.declared.end.End.TheVariants.{Checked, Refused, Usage, ReadFault, WriteFault, OutOfMemory}
 use Rattle.vdm_report.specs.declared.report.Report.{Report}
@@ -79,18 +79,19 @@ pub record KeepsReading (call : Call) : Type 0 where
       → Takes call told
   pub turns : call.reads_after ≤ call.reads_before + spec_limit + 1
 
--- the words run the expression of this text, with the log or without
-abbrev pub RunsText : List (List ℕ) → List ℕ → Type 0
-RunsText words text = (log : Bool) × IsCommand words (run text log)
+-- the words run the expression of this text within these limits, with the log or without
+abbrev pub RunsText : List (List ℕ) → List ℕ → Limits → Type 0
+RunsText words text limits = (log : Bool) × IsCommand words (run text limits log)
 
 -- the words run the expression of a text that is accepted behind this specification
 abbrev pub AcceptsTexts : List (List ℕ) → List ℕ → Type 0
 AcceptsTexts words spec =
     (text : List ℕ)
+    × (limits : Limits)
     × (names : List (List ℕ))
     × (tree : SpecTree)
     × (expression : ExprTree)
-    × RunsText words text
+    × RunsText words text limits
     × IsAccepted spec text names tree expression
 
 -- the words check a specification that is accepted, and has so many classes
@@ -120,9 +121,9 @@ pub record KeepsTexts (call : Call) : Type 0 where
       → call.source.before ≡ Some told
       → IsSome (finish_in call.report.end)
       → (call.source.after ≡ Some []) × AcceptsTexts call.words told
-  pub finishes : (told text : List ℕ) (names : List (List ℕ)) (tree : SpecTree) (expression : ExprTree)
+  pub finishes : (told text : List ℕ) (limits : Limits) (names : List (List ℕ)) (tree : SpecTree) (expression : ExprTree)
       → call.source.before ≡ Some told
-      → RunsText call.words text
+      → RunsText call.words text limits
       → (IsFaulty call.source → ⊥)
       → IsAccepted told text names tree expression
       → IsSome (finish_in call.report.end) ⊎ ((call.report.end ≡ WriteFault) ⊎ (call.report.end ≡ OutOfMemory))
@@ -137,12 +138,13 @@ pub record KeepsTexts (call : Call) : Type 0 where
       → IsChecked told tree
       → StandsFor call.report.end (Checked (length tree.classes))
 
--- the journal is a run of the trees of the words' text and of this specification
+-- the journal is a run of the trees of the words' text and of this specification, within the words' limits
 pub record RunsOf (call : Call) (spec : List ℕ) : Type 0 where
   pub text : List ℕ
+  pub limits : Limits
   pub names : List (List ℕ)
-  pub command : RunsText call.words text
-  pub runs : Runs spec text names call.report.journal
+  pub command : RunsText call.words text limits
+  pub runs : Runs spec text names limits call.report.journal
 
 -- Journal: whatever the end is, it is empty, or a run of the trees of the texts, in the order of one lane, and then the
 -- words run one and the source was read to its end. Of a source that tells nothing it is a run behind some specification.

@@ -5,12 +5,11 @@ use Rattle.abstract_syntax.specs.Expressions.{ExprTree}
 use Rattle.run_journal.specs.declared.entry.Entry.{Entry}
 use Rattle.vdm_kinds.specs.declared.spec_fault.SpecFault.{SpecFault}
 use Rattle.text_phases.specs.Phases.{IsAccepted, IsChecked, first_refusal, spec_refusal, spec_limit}
-use Rattle.vdm_meaning.specs.Main.{step_limit}
 use Rattle.vdm_legal.specs.Order.{IsInOrder}
 use Rattle.vdm_legal.specs.Finishes.{Finish, ended, failed, finish_of}
 use Rattle.vdm_meaning.specs.Runs.{IsRun}
 use Rattle.vdm_outside.specs.Reading.{AreFirst, TakesAtMost}
-use Rattle.report_texts.specs.Words.{Command, check, run, IsCommand, IsNoCommand, asks_log}
+use Rattle.report_texts.specs.Words.{Limits, Command, check, run, IsCommand, IsNoCommand, asks_log}
 use Rattle.vdm_report.specs.Outside.{Outside, IsCalm, IsFaulty, IsUntouched}
 use Rattle.vdm_report.specs.Written.{Wrote}
 use Rattle.vdm_report.specs.declared.end.End.{End}
@@ -33,12 +32,13 @@ pub record ReadsSpec {S : Type 0} (left : S → Option (List ℕ)) (reads : S �
   pub taken : TakesAtMost (spec_limit + 1) (left before) (left after) (reads before) (reads after)
   pub turns : reads after ≤ reads before + spec_limit + 1
 
--- both texts are accepted, over these names, and the journal is a run of their trees, in the order of one lane
-pub record Runs (spec text : List ℕ) (names : List (List ℕ)) (journal : List Entry) : Type 0 where
+-- both texts are accepted, over these names, and the journal is a run of their trees within these limits, in the order of
+-- one lane
+pub record Runs (spec text : List ℕ) (names : List (List ℕ)) (limits : Limits) (journal : List Entry) : Type 0 where
   pub tree : SpecTree
   pub expression : ExprTree
   pub accepted : IsAccepted spec text names tree expression
-  pub run_of : IsRun tree expression step_limit journal
+  pub run_of : IsRun tree expression limits.steps journal
   pub order : IsInOrder tree journal
 
 -- the specification is accepted, and has so many classes
@@ -52,17 +52,17 @@ pub record HasClasses (spec : List ℕ) (classes : ℕ) : Type 0 where
 -- the first refusal: of the specification alone, or of it and the text that runs
 abbrev pub refusal_of : Command → List ℕ → Option SpecFault
 refusal_of check spec = spec_refusal spec
-refusal_of (run text log) spec = first_refusal spec text
+refusal_of (run text limits log) spec = first_refusal spec text
 
--- the command runs a text, and the journal is the run
+-- the command runs a text within its limits, and the journal is the run
 abbrev pub RunsBy : Command → List ℕ → List (List ℕ) → List Entry → Type 0
 RunsBy check spec names journal = ⊥
-RunsBy (run text log) spec names journal = Runs spec text names journal
+RunsBy (run text limits log) spec names journal = Runs spec text names limits journal
 
 -- the command checks the specification, which has so many classes
 abbrev pub ChecksBy : Command → List ℕ → ℕ → Type 0
 ChecksBy check spec classes = HasClasses spec classes
-ChecksBy (run text log) spec classes = ⊥
+ChecksBy (run text limits log) spec classes = ⊥
 
 -- ---- the end that is meant
 

@@ -1,9 +1,8 @@
 -- How the run of a specification and an expression ends.
-use Rattle.std.specs.Prelude.{◌≡◌, List}
+use Rattle.std.specs.Prelude.{◌≡◌, ℕ, List}
 use Rattle.abstract_syntax.specs.Classes.{SpecTree}
 use Rattle.abstract_syntax.specs.Expressions.{ExprTree}
 use Rattle.run_journal.specs.declared.entry.Entry.{Entry}
-use Rattle.vdm_meaning.specs.Main.{step_limit}
 use Rattle.vdm_legal.specs.Order.{IsInOrder}
 use Rattle.vdm_legal.specs.Finishes.{finish_of}
 use Rattle.vdm_meaning.specs.Runs.{IsRun}
@@ -18,9 +17,10 @@ EndsRun journal (Failed fault exit thread place) = finish_of journal ≡ finish_
 EndsRun journal OutOfMemory = Unit {0}
 EndsRun journal _ = ⊥
 
--- a run of a specification and an expression, in the order of one lane: to its end, or as far as memory allowed
-pub record RunsTo (spec : SpecTree) (tree : ExprTree) (journal : List Entry) (end : End) : Type 0 where
-  pub run : IsRun spec tree step_limit journal
+-- a run of a specification and an expression with these units, in the order of one lane: to its end, or as far as memory
+-- allowed
+pub record RunsTo (spec : SpecTree) (tree : ExprTree) (units : ℕ) (journal : List Entry) (end : End) : Type 0 where
+  pub run : IsRun spec tree units journal
   pub order : IsInOrder spec journal
   pub ends : EndsRun journal end
   pub line : HasReportLine end

@@ -5,11 +5,10 @@ ghost use Rattle.abstract_syntax.specs.Classes.{SpecTree};
 ghost use Rattle.abstract_syntax.specs.Expressions.{ExprTree};
 ghost use Rattle.vdm_kinds.specs.declared.spec_fault.SpecFault.{SpecFault};
 ghost use Rattle.text_phases.specs.Phases.{IsAccepted, first_refusal};
-ghost use Rattle.vdm_meaning.specs.Main.{step_limit};
 ghost use Rattle.vdm_legal.specs.Order.{IsInOrder};
 ghost use Rattle.vdm_legal.specs.Finishes.{finish_of};
 ghost use Rattle.vdm_meaning.specs.Runs.{IsRun};
-ghost use Rattle.report_texts.specs.Words.{check, IsCommand, IsNoCommand};
+ghost use Rattle.report_texts.specs.Words.{Limits, check, IsCommand, IsNoCommand};
 ghost use Rattle.vdm_report.specs.declared.end.End.TheVariants.{Checked, Refused, Usage, ReadFault};
 ghost use Rattle.vdm_report.specs.Ends.{finish_in};
 ghost use Rattle.vdm_cli.specs.Meant.{read_of};
@@ -36,14 +35,15 @@ pub fn the_end_is_the_runs()
         → finish_of call.report.journal ≡ finish_in call.report.end }
 {}
 
-/// Where both texts are accepted, the journal is a run of their trees, in the order of one lane.
+/// Where both texts are accepted, the journal is a run of their trees with the command's units, in the order of one lane.
 pub fn the_journal_is_the_run()
-    ensures { (call : Call) (told text : List ℕ) (names : List (List ℕ)) (tree : SpecTree) (expression : ExprTree)
+    ensures { (call : Call) (told text : List ℕ) (limits : Limits) (names : List (List ℕ))
+        (tree : SpecTree) (expression : ExprTree)
         → KeepsJournal call
         → call.source.before ≡ Some told
-        → RunsText call.words text
+        → RunsText call.words text limits
         → IsAccepted told text names tree expression
-        → IsRun tree expression step_limit call.report.journal × IsInOrder tree call.report.journal }
+        → IsRun tree expression limits.steps call.report.journal × IsInOrder tree call.report.journal }
 {}
 
 /// The journal is empty where the words are no command, or `check`; where the texts have a refusal, where the source was not
@@ -57,10 +57,10 @@ pub fn the_journal_is_empty()
         → KeepsJournal call
         → IsCommand call.words check
         → call.report.journal ≡ [] }
-    ensures no_trees { (call : Call) (told text : List ℕ) (fault : SpecFault)
+    ensures no_trees { (call : Call) (told text : List ℕ) (limits : Limits) (fault : SpecFault)
         → KeepsJournal call
         → call.source.before ≡ Some told
-        → RunsText call.words text
+        → RunsText call.words text limits
         → first_refusal told text ≡ Some fault
         → call.report.journal ≡ [] }
     ensures unread { (call : Call) (told : List ℕ)

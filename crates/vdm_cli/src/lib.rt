@@ -1,10 +1,13 @@
 //! A whole call of the program: from its words, its source and its sink to the report that it writes.
 #![tactic(auto)]
 
+mod chosen;
 mod command;
 mod laws;
 mod meant;
+mod number;
 mod run;
+mod run_option;
 pub mod vdm_main;
 
 pub use laws::{

@@ -8,7 +8,7 @@ ghost use Rattle.text_reader.specs.Below.spec_table.specs.Tables.{table_spec};
 ghost use Rattle.report_texts.specs.Words.{check, run, asks_log};
 ghost use Rattle.vdm_report.specs.Ends.{status_of, HasReportLine};
 ghost use Rattle.vdm_report.specs.Outside.{around};
-ghost use Rattle.vdm_cli.specs.Commands.{command_view};
+ghost use Rattle.vdm_cli.specs.Commands.{command_view, limits_view};
 ghost use Rattle.vdm_cli.specs.Meant.{HasClasses, MeansCommand, MeansTexts, ReadsSpec};
 
 use crate::command::Command;
@@ -16,7 +16,7 @@ use crate::run::run;
 use std::alloc::Global;
 use text_reader::handed::spec_table::ClassTable;
 use text_reader::{read_specification, read_texts};
-use vdm_kinds::{Halt, SpecFault};
+use vdm_kinds::{Halt, Limits, SpecFault};
 use vdm_names::Names;
 use vdm_outside::{Source, read_limited};
 use vdm_report::{End, Report};
@@ -59,7 +59,9 @@ fn meant_of_spec(alloc: Global, spec: &[u8], command: Command<'_>, names: &mut N
 {
     match command {
         Command::Check => Report::without_run(alloc, end_of_check(alloc, spec, names), false),
-        Command::Run { text, log } => meant_of_texts(alloc, spec, text.as_bytes(), log, names),
+        Command::Run { text, limits, log } => {
+            meant_of_texts(alloc, spec, text.as_bytes(), limits, log, names)
+        }
     }
 }
 
@@ -97,15 +99,24 @@ fn classes_in(table: &ClassTable) -> u64
 }
 
 /// What the two texts mean: their first refusal, or a run of the expression.
-fn meant_of_texts(alloc: Global, spec: &[u8], text: &[u8], log: bool, names: &mut Names) -> Report
+fn meant_of_texts(
+    alloc: Global,
+    spec: &[u8],
+    text: &[u8],
+    limits: Limits,
+    log: bool,
+    names: &mut Names,
+) -> Report
     requires { names.old ≡ built_in_names }
-    ensures means { MeansTexts (run text.now log) spec.now names.new result.journal result.end }
+    ensures means { MeansTexts (run text.now (limits_view limits) log) spec.now names.new result.journal result.end }
     ensures status { result.status ≡ status_of result.end }
     ensures log { result.log ≡ log }
     ensures line { HasReportLine result.end }
 {
     match read_texts(alloc, spec, text, names) {
-        Ok((spec, expression)) => run(alloc, &spec, expression.expr(), log),
+        Ok((checked, expression)) => {
+            run(alloc, checked.table(), expression.expr(), limits.steps, log)
+        }
         Err(Halt::Of(fault)) => Report::without_run(alloc, End::Refused(fault), log),
         Err(Halt::OutOfMemory) => Report::without_run(alloc, End::OutOfMemory, log),
     }

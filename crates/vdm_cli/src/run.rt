@@ -1,31 +1,28 @@
 // The run of a specification and an expression, and how it ends.
 
-ghost use Rattle.std.specs.Prelude.{◌≡◌, ◌≤◌, List, length, Some, IfSome};
+ghost use Rattle.std.specs.Prelude.{◌≡◌, List, Some, IfSome};
 ghost use Rattle.run_journal.specs.declared.entry.Entry.{Entry};
 ghost use Rattle.vdm_legal.specs.Finishes.{finish_of};
-ghost use Rattle.vdm_tree.specs.ClassView.{spec_view};
 ghost use Rattle.expr_tree.specs.View.{view_of};
+ghost use Rattle.text_reader.specs.Below.spec_table.specs.Tables.{table_spec};
 ghost use Rattle.vdm_report.specs.Ends.{status_of, HasReportLine};
 ghost use Rattle.vdm_cli.specs.RunEnds.{RunsTo, EndsRun};
 ghost use Rattle.plain_state.specs.Finishes.{finishes};
 
 use plain_state::Finish;
 use std::alloc::Global;
+use text_reader::handed::spec_table::ClassTable;
 use vdm_report::{End, Report};
-use vdm_tree::{Expr, Spec};
+use vdm_tree::Expr;
 
-/// The units of a thread.
-const STEP_LIMIT: u64 = 1_000_000;
-
-/// Runs an expression under a specification of no class or one, and reports the run. Where memory runs out, the entries made
-/// so far stay.
-pub fn run(alloc: Global, spec: &Spec, tree: &Expr, log: bool) -> Report
-    requires { length spec.now.classes.items ≤ 1 }
-    ensures run { RunsTo (spec_view spec.now) (view_of tree.now) result.journal result.end }
+/// Runs an expression under the table's specification, with so many units, and reports the run. Where memory runs out, the
+/// entries made so far stay.
+pub fn run(alloc: Global, table: &ClassTable, tree: &Expr, steps: u64, log: bool) -> Report
+    ensures run { RunsTo (table_spec table.now) (view_of tree.now) steps result.journal result.end }
     ensures status { result.status ≡ status_of result.end }
     ensures log { result.log ≡ log }
 {
-    let ran = plain_run::run(alloc, spec, tree, STEP_LIMIT);
+    let ran = plain_run::run(alloc, table, tree, steps);
     Report::new(end_after(ran.finish), ran.journal, log)
 }
 

@@ -1,6 +1,6 @@
-pub mod Births
 pub mod Counting
 pub mod Journals
-pub mod Numbers
+pub mod Known
 pub mod Sanity
+pub mod States
 pub mod Taken

@@ -1,7 +1,5 @@
--- What every journal keeps while tasks are done: its counters rise in order, its objects hold numbers, and no end is in it; and how it grows by a task.
-use Rattle.std.proofs.Common.{◌≡◌, ◌≢◌, ℕ, ◌+◌, ◌≤◌, ◌<◌, Bool, false, List, [], ◌∷◌, ◌++◌, None, refl, sym, ap, ◌∙◌, append_assoc, append-nil, arith}
-use Rattle.std.specs.List.{AllByRecursion as Each}
-use Rattle.std.proofs.lemmas.List.Elements.{filter-append}
+-- What every journal keeps while tasks are done: its counters rise in order, its objects hold known values, and no end is in it; and how it grows by a task.
+use Rattle.std.proofs.Common.{◌≡◌, ℕ, ◌+◌, ◌≤◌, ◌<◌, Bool, false, List, [], ◌∷◌, ◌++◌, None, refl, sym, ap, ◌∙◌, append_assoc, append-nil, arith}
 use Rattle.vdm_kinds.specs.declared.member.OpRef.{OpRef}
 use Rattle.vdm_kinds.specs.declared.name.Name.{Name}
 use Rattle.abstract_syntax.specs.Classes.{is_same_name}
@@ -10,25 +8,18 @@ use Rattle.run_journal.specs.declared.deed.Deed.TheVariants as deed
 use Rattle.run_journal.specs.declared.entry.Entry.{Entry}
 use Rattle.run_journal.specs.declared.thread.Thread.TheVariants.{Main}
 use Rattle.run_journal.specs.Made.{entry}
-use Rattle.vdm_legal.proofs.Numbers.{IsNumberSlot, IsNumberPair}
-use Rattle.run_journal.specs.Parts.{is_on, object_part}
 use Rattle.vdm_legal.specs.Finishes.{decided, finish_of}
 use Rattle.vdm_legal.specs.State.{is_request, is_activation, is_finish}
 use Rattle.vdm_legal.proofs.Counting.{counted, counted-more, counted-one, adds, adds-none, adds-here}
 use Rattle.vdm_legal.proofs.Journals.{finish-last}
+use Rattle.vdm_legal.proofs.Known.{KeepsKnown, AllKnown, known-more}
 
--- what a deed gives a variable is a number or nothing
-abbrev pub KeepsNumbers : Deed → Type 0
-KeepsNumbers (deed.New class slots) = Each IsNumberSlot slots
-KeepsNumbers (deed.Write pairs refused) = Each IsNumberPair pairs
-KeepsNumbers _ = Unit {0}
-
--- of each name on each object there are at most as many activations as requests, and as finishes activations; values are numbers,
+-- of each name on each object there are at most as many activations as requests, and as finishes activations; values are known,
 -- and the run is not finished
 pub record IsSane (entries : List Entry) : Type 0 where
   pub begun : (o : ℕ) (name : Name) → counted (is_activation name) o entries ≤ counted (is_request name) o entries
   pub done : (o : ℕ) (name : Name) → counted (is_finish name) o entries ≤ counted (is_activation name) o entries
-  pub numbers : Each (λ (e : Entry). KeepsNumbers e.deed) entries
+  pub known : AllKnown entries entries
   pub unfinished : finish_of entries ≡ None
 
 -- the later entries are the earlier ones and more, by which requests, activations and finishes rise alike
@@ -49,21 +40,8 @@ within-then a b c h k = record {
   done = λ o name. omega (arith, h.done o name, k.done o name);
 }
 
-more-there : {X : Type 0} (xs ys : List X) → xs ≢ [] → xs ++ ys ≢ []
-more-there [] ys h e = h refl
-more-there (x ∷ xs) ys h e = cc
-
--- an object on which something stands has it behind further entries too
-pub there-on : (o : ℕ) (before more after : List Entry) → after ≡ before ++ more → object_part o before ≢ [] → object_part o after ≢ []
-there-on o before more after e there none =
-    more-there (object_part o before) (object_part o more) there (sym (filter-append (is_on o) before more) ∙ ap (object_part o) (sym e) ∙ none)
-
 pub sane-start : IsSane []
-sane-start = record { begun = λ o name. omega arith; done = λ o name. omega arith; numbers = tt; unfinished = refl }
-
-each-more : (before : List Entry) (e : Entry) → Each (λ (e : Entry). KeepsNumbers e.deed) before → KeepsNumbers e.deed → Each (λ (e : Entry). KeepsNumbers e.deed) (before ++ e ∷ [])
-each-more [] e h k = (k, tt)
-each-more (x ∷ before) e h k = (h.0, each-more before e h.1 k)
+sane-start = record { begun = λ o name. omega arith; done = λ o name. omega arith; known = tt; unfinished = refl }
 
 -- ---- one entry more
 
@@ -114,11 +92,11 @@ module _ (before : List Entry) (me : ℕ) (d : Deed) (quiet : IsQuiet d) where
     finished = counted-off (is_finish name) me o d before (quiet name).2;
   }
 
-  pub quiet-sane : IsSane before → KeepsNumbers d → decided Main d ≡ None → IsSane (before ++ entry Main me d ∷ [])
-  quiet-sane sane numbers undecided = record {
+  pub quiet-sane : IsSane before → KeepsKnown before d → decided Main d ≡ None → IsSane (before ++ entry Main me d ∷ [])
+  quiet-sane sane known undecided = record {
     begun = λ o name. let t = quiet-tally o name in omega (arith, sane.begun o name, t.requested, t.activated);
     done = λ o name. let t = quiet-tally o name in omega (arith, sane.done o name, t.activated, t.finished);
-    numbers = each-more before (entry Main me d) sane.numbers numbers;
+    known = known-more before (entry Main me d) sane.known known;
     unfinished = finish-last before (entry Main me d) sane.unfinished ∙ undecided;
   }
 
@@ -146,7 +124,7 @@ module _ (before : List Entry) (me : ℕ) (op : OpRef) (sane : IsSane before) wh
   request-sane = record {
     begun = λ o name. let t = req-tally before me op o name in omega (arith, sane.begun o name, t.requested, t.activated);
     done = λ o name. let t = req-tally before me op o name in omega (arith, sane.done o name, t.activated, t.finished);
-    numbers = each-more before (entry Main me (deed.Req op)) sane.numbers tt;
+    known = known-more before (entry Main me (deed.Req op)) sane.known tt;
     unfinished = finish-last before (entry Main me (deed.Req op)) sane.unfinished;
   }
 
@@ -157,7 +135,7 @@ module _ (before : List Entry) (me : ℕ) (op : OpRef) (sane : IsSane before) wh
   begun-sane = record {
     begun = λ o name. let t = req-tally before me op o name in let s = act-tally (behind_request before me op) me op o name in omega (arith, sane.begun o name, t.requested, t.activated, s.requested, s.activated);
     done = λ o name. let t = req-tally before me op o name in let s = act-tally (behind_request before me op) me op o name in omega (arith, sane.done o name, t.activated, t.finished, s.activated, s.finished);
-    numbers = each-more (behind_request before me op) (entry Main me (deed.Act op)) request-sane.numbers tt;
+    known = known-more (behind_request before me op) (entry Main me (deed.Act op)) request-sane.known tt;
     unfinished = finish-last (behind_request before me op) (entry Main me (deed.Act op)) request-sane.unfinished;
   }
 
@@ -176,7 +154,7 @@ module _ (before : List Entry) (me : ℕ) (op : OpRef) (sane : IsSane before) wh
           let s = act-tally (behind_request before me op) me op o name in
           let u = fin-tally after me op o name in
           omega (arith, sane.done o name, t.activated, t.finished, s.activated, s.finished, within.begun o name, within.done o name, u.activated, u.finished);
-      numbers = each-more after (entry Main me (deed.Fin op)) still.numbers tt;
+      known = known-more after (entry Main me (deed.Fin op)) still.known tt;
       unfinished = finish-last after (entry Main me (deed.Fin op)) still.unfinished;
     }
 

@@ -24,7 +24,7 @@ IsEntryFor spec before (New class slots) a e = (n : ℕ) × (a ≡ Object n) × 
 IsEntryFor spec before (Req o op) a e = (a ≡ Done) × (e ≡ entry Main o (deed.Req op))
 IsEntryFor spec before (Act o op) a e = (a ≡ Done) × (e ≡ entry Main o (deed.Act op))
 IsEntryFor spec before (Fin o op) a e = (a ≡ Done) × (e ≡ entry Main o (deed.Fin op))
-IsEntryFor spec before (Read o var) a e = (slot : Slot) × (a ≡ Holds slot) × (state_of spec (object_part o before) var ≡ Some slot) × (e ≡ entry Main o (deed.Read var slot))
+IsEntryFor spec before (Read o var) a e = (slot : Slot) × (a ≡ Holds slot) × (state_of spec (object_part o before) var ≡ slot) × (e ≡ entry Main o (deed.Read var slot))
 IsEntryFor spec before (Write o pairs) a e = (a ≡ Done) × (e ≡ entry Main o (deed.Write pairs false))
 IsEntryFor spec before (End slot) a e = (a ≡ Done) × (e ≡ entry Main 0 (deed.End slot))
 IsEntryFor spec before (Fail fault exit place) a e = (a ≡ Done) × (e ≡ entry Main 0 (deed.Fail fault exit place))
@@ -70,9 +70,7 @@ module _ (spec : SpecTree) (before : List Entry) where
   one-entry (Act o op) a b x y h k numbered also = h.1 ∙ sym k.1
   one-entry (Fin o op) a b x y h k numbered also = h.1 ∙ sym k.1
   one-entry (Read o var) a b x y h k numbered also =
-      let held : Some h.0 ≡ Some k.0 = sym h.2 ∙ k.2 in
-      let same : h.0 ≡ k.0 = cc in
-      h.3 ∙ ap (λ slot. entry Main o (deed.Read var slot)) same ∙ sym k.3
+      h.3 ∙ ap (λ slot. entry Main o (deed.Read var slot)) (sym h.2 ∙ k.2) ∙ sym k.3
   one-entry (Write o pairs) a b x y h k numbered also = h.1 ∙ sym k.1
   one-entry (End slot) a b x y h k numbered also = h.1 ∙ sym k.1
   one-entry (Fail fault exit place) a b x y h k numbered also = h.1 ∙ sym k.1
@@ -104,7 +102,9 @@ ready-answer spec before (New class slots) h =
 ready-answer spec before (Req o op) h = record { answer = Done; next = entry Main o (deed.Req op); fits = tt; made_of = refl; legal = h; numbered = tt }
 ready-answer spec before (Act o op) h = record { answer = Done; next = entry Main o (deed.Act op); fits = tt; made_of = refl; legal = h; numbered = tt }
 ready-answer spec before (Fin o op) h = record { answer = Done; next = entry Main o (deed.Fin op); fits = tt; made_of = refl; legal = h; numbered = tt }
-ready-answer spec before (Read o var) h = record { answer = Holds h.1.0; next = entry Main o (deed.Read var h.1.0); fits = tt; made_of = refl; legal = (h.0, h.1.1); numbered = tt }
+ready-answer spec before (Read o var) h =
+    let slot = state_of spec (object_part o before) var in
+    record { answer = Holds slot; next = entry Main o (deed.Read var slot); fits = tt; made_of = refl; legal = (h, refl); numbered = tt }
 ready-answer spec before (Write o pairs) h = record { answer = Done; next = entry Main o (deed.Write pairs false); fits = tt; made_of = refl; legal = (h, refl); numbered = tt }
 ready-answer spec before (End slot) h = record { answer = Done; next = entry Main 0 (deed.End slot); fits = tt; made_of = refl; legal = h; numbered = tt }
 ready-answer spec before (Fail fault exit place) h = record { answer = Done; next = entry Main 0 (deed.Fail fault exit place); fits = tt; made_of = refl; legal = h; numbered = tt }

@@ -1,5 +1,5 @@
 -- Which entry may stand behind others at its object.
-use Rattle.std.specs.Prelude.{◌≡◌, ◌≢◌, ◌<◌, ℕ, false, List, [], Some}
+use Rattle.std.specs.Prelude.{◌≡◌, ◌≢◌, ◌<◌, ℕ, false, List, []}
 use Rattle.abstract_syntax.specs.Classes.{SpecTree}
 use Rattle.run_journal.specs.declared.deed.Deed.{Deed}
 use Rattle.run_journal.specs.declared.deed.Deed.TheVariants.{Class, New, Req, Act, Fin, Read, Write, End, Fail}
@@ -16,7 +16,7 @@ IsLegalAtObject spec object before (New class slots) = (before ≡ []) × IsAbov
 IsLegalAtObject spec object before (Req op) = before ≢ []
 IsLegalAtObject spec object before (Act op) = (before ≢ []) × (activations op.name before < requests op.name before)
 IsLegalAtObject spec object before (Fin op) = (before ≢ []) × (finishes op.name before < activations op.name before)
-IsLegalAtObject spec object before (Read var slot) = (before ≢ []) × (state_of spec before var ≡ Some slot)
+IsLegalAtObject spec object before (Read var slot) = (before ≢ []) × (state_of spec before var ≡ slot)
 IsLegalAtObject spec object before (Write writes refused) = (before ≢ []) × (refused ≡ false)
 IsLegalAtObject spec object before (End slot) = before ≢ []
 IsLegalAtObject spec object before (Fail fault exit place) = before ≢ []

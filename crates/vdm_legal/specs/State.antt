@@ -1,21 +1,20 @@
 -- What the entries on an object say of it: what its variables hold, and how often its operations were asked for, began and
 -- ended. Each is found in the list of the entries itself.
-use Rattle.std.specs.Prelude.{ℕ, Bool, false, ◌&&◌, if◌then◌else◌, List, [], ◌∷◌, length, filter, Option, Some, None, option_map}
+use Rattle.std.specs.Prelude.{ℕ, Bool, false, ◌&&◌, if◌then◌else◌, List, [], ◌∷◌, length, filter, Option, Some, None}
 use Rattle.vdm_kinds.specs.declared.member.VarRef.{VarRef}
 use Rattle.vdm_kinds.specs.declared.name.Name.{Name}
 use Rattle.vdm_values.specs.declared.slot.Slot.{Slot}
-use Rattle.vdm_values.specs.declared.slot.Slot.TheVariants.{Held}
+use Rattle.vdm_values.specs.declared.slot.Slot.TheVariants.{Unset, Held}
 use Rattle.abstract_syntax.specs.Values.{ValueTree}
-use Rattle.abstract_syntax.specs.Classes.{VariableTree, ClassTree, SpecTree, is_same_name, class_variables, class_named}
+use Rattle.abstract_syntax.specs.Classes.{SpecTree, is_same_name}
+use Rattle.class_meaning.specs.Classes.{class_number}
+use Rattle.class_meaning.specs.Objects.{layout, statics}
 use Rattle.run_journal.specs.declared.deed.Deed.{Deed}
-use Rattle.run_journal.specs.declared.deed.Deed.TheVariants.{New, Req, Act, Fin, Write}
+use Rattle.run_journal.specs.declared.deed.Deed.TheVariants.{Class, New, Req, Act, Fin, Write}
 use Rattle.run_journal.specs.declared.entry.Entry.{Entry}
 use Rattle.run_journal.specs.declared.write.Write.{Write as Pair}
 
 -- ---- variables
-
-abbrev pub variable_ref : ClassTree → VariableTree → VarRef
-variable_ref class variable = record { class = class.name; name = variable.name }
 
 abbrev pub is_same_variable : VarRef → VarRef → Bool
 is_same_variable a b = is_same_name a.class b.class && is_same_name a.name b.name
@@ -40,28 +39,41 @@ abbrev pub last_written : VarRef → List Entry → Option ValueTree
 last_written var [] = None
 last_written var (entry ∷ entries) = last_of (written_by var entry.deed) (last_written var entries)
 
--- the slot of a variable of the class, among the slots in the order of its layout
-abbrev pub slot_among : ClassTree → VarRef → List VariableTree → List Slot → Option Slot
-slot_among class var (variable ∷ variables) (slot ∷ slots) =
-    if is_same_variable var (variable_ref class variable) then Some slot else slot_among class var variables slots
-slot_among class var _ _ = None
+-- the variables of the class of a number, where there is one
+abbrev pub variables_by : (ℕ → List VarRef) → Option ℕ → List VarRef
+variables_by variables None = []
+variables_by variables (Some k) = variables k
 
-abbrev pub slot_in_class : Option ClassTree → VarRef → List Slot → Option Slot
-slot_in_class None var slots = None
-slot_in_class (Some class) var slots = slot_among class var (class_variables class) slots
+-- the slot of a variable among the slots in the order of a layout; one that is not there is unset
+abbrev pub slot_among : VarRef → List VarRef → List Slot → Slot
+slot_among var (other ∷ others) (slot ∷ slots) = if is_same_variable var other then slot else slot_among var others slots
+slot_among var _ _ = Unset
 
--- what the variable held when the object was made. So far a class object has no variable.
-abbrev pub slot_made : SpecTree → VarRef → Deed → Option Slot
-slot_made spec var (New class slots) = slot_in_class (class_named spec class) var slots
-slot_made spec var _ = None
+-- the variables of an object of a class, and those of a class object, in order; none of a class that is not there
+abbrev pub object_variables : SpecTree → Name → List VarRef
+object_variables spec class = variables_by (layout spec) (class_number spec class)
 
-abbrev pub first_slot : SpecTree → VarRef → List Entry → Option Slot
-first_slot spec var [] = None
+abbrev pub class_variables : SpecTree → Name → List VarRef
+class_variables spec class = variables_by (statics spec) (class_number spec class)
+
+-- what the variable held when the object was made
+abbrev pub slot_made : SpecTree → VarRef → Deed → Slot
+slot_made spec var (New class slots) = slot_among var (object_variables spec class) slots
+slot_made spec var (Class class slots) = slot_among var (class_variables spec class) slots
+slot_made spec var _ = Unset
+
+abbrev pub first_slot : SpecTree → VarRef → List Entry → Slot
+first_slot spec var [] = Unset
 first_slot spec var (entry ∷ entries) = slot_made spec var entry.deed
 
--- what a variable of the object of these entries holds, where the object has the variable
-abbrev pub state_of : SpecTree → List Entry → VarRef → Option Slot
-state_of spec entries var = last_of (first_slot spec var entries) (option_map Held (last_written var entries))
+-- a value that was written last, or else the slot that was there first
+abbrev pub slot_or : Slot → Option ValueTree → Slot
+slot_or first None = first
+slot_or first (Some v) = Held v
+
+-- what a variable of the object of these entries holds; a variable that it does not have is unset
+abbrev pub state_of : SpecTree → List Entry → VarRef → Slot
+state_of spec entries var = slot_or (first_slot spec var entries) (last_written var entries)
 
 -- ---- counters
 

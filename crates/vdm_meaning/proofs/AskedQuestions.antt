@@ -9,27 +9,28 @@ use Rattle.run_journal.specs.declared.question.Question.TheVariants.{Fail}
 use Rattle.plans.specs.Plans.{Outcome, gives, faults, needs}
 use Rattle.plans.specs.Steps.{Step, answers, last, Failed, MayHaveAsked}
 use Rattle.plans.proofs.Playing.{answers-behind}
-use Rattle.vdm_meaning.specs.Faults.{Fault}
 use Rattle.vdm_legal.specs.ClassObjects.{classes_of}
-use Rattle.vdm_meaning.specs.Main.{asks, standing_of, main_code}
 use Rattle.vdm_legal.specs.Ready.{IsReady}
 use Rattle.vdm_legal.specs.Finishes.{finish_of}
-use Rattle.vdm_meaning.specs.Runs.{IsRun}
-use Rattle.vdm_meaning.specs.Tasks.{Flow}
 use Rattle.vdm_legal.proofs.Journals.{main_answers}
+use Rattle.node_meaning.specs.Faults.{Fault}
+use Rattle.node_meaning.specs.Tasks.{Flow, Query, noted, needed}
+use Rattle.vdm_meaning.specs.Main.{asks, standing_of, main_code}
+use Rattle.vdm_meaning.specs.Runs.{IsRun}
 use Rattle.vdm_meaning.proofs.Rules.{MayAsk, rules}
 use Rattle.vdm_meaning.proofs.Runs.{run_front}
 use Rattle.vdm_meaning.proofs.RunSteps.{IsCut, IsMainSound, cut, last-steps, length-steps, main_outcome, run-answers, run-sound, steps_of}
 
 -- what main asks: what its code needs, or to fail
-abbrev pub IsNeedOrFault : Outcome Flow Question Answer Fault → Question → Type 0
-IsNeedOrFault o q = (o ≡ needs q) ⊎ ((f : Fault) × (o ≡ faults f []) × (q ≡ Fail f.fault f.exit f.place))
+abbrev pub IsNeedOrFault : Outcome Flow Query Answer Fault → Question → Type 0
+IsNeedOrFault o q = (o ≡ needs (noted q)) ⊎ ((f : Fault) × (o ≡ faults f []) × (q ≡ Fail f.fault f.exit f.place))
 
-asked-case : (o : Outcome Flow Question Answer Fault) (q : Question) → standing_of o ≡ asks q → IsNeedOrFault o q
+asked-case : (o : Outcome Flow Query Answer Fault) (q : Question) → standing_of o ≡ asks q → IsNeedOrFault o q
 asked-case (gives flow left u) q e = absurd (cc)
 asked-case (faults f []) q e = let same : Fail f.fault f.exit f.place ≡ q = cc in inr (f, refl, sym same)
 asked-case (faults f (a ∷ left)) q e = absurd (cc)
-asked-case (needs r) q e = let same : r ≡ q = cc in inl (ap needs same)
+asked-case (needs (noted r)) q e = let same : r ≡ q = cc in inl (ap (λ x. needs (noted x)) same)
+asked-case (needs (needed need)) q e = absurd (cc)
 
 -- what no answer stands in has no entry
 no-answer : (before rest : List Entry) → answers (steps_of before rest) ≡ [] → rest ≡ []
@@ -56,8 +57,8 @@ pub record HasFailed (spec : SpecTree) (tree : ExprTree) (units : ℕ) (entries 
 
 module _ (spec : SpecTree) (tree : ExprTree) (units : ℕ) where
   module _ (entries : List Entry) (h : IsRun spec tree units entries) where
-    needed : (q : Question) → main_outcome spec tree units (main_answers entries) ≡ needs q → IsAsked spec tree units entries q
-    needed q e =
+    asks_for : (q : Question) → main_outcome spec tree units (main_answers entries) ≡ needs (noted q) → IsAsked spec tree units entries q
+    asks_for q e =
         let sound = subst (IsMainSound spec tree units entries) e (run-sound spec tree units entries h) in
         record {
           may = subst (λ xs. MayAsk spec xs q) (last-steps [] entries) sound.0;
@@ -107,7 +108,7 @@ module _ (spec : SpecTree) (tree : ExprTree) (units : ℕ) where
     pub asked : (q : Question) → main_code spec tree units (main_answers entries) ≡ asks q → IsAsked spec tree units entries q
     asked q e =
         elim (asked-case (main_outcome spec tree units (main_answers entries)) q e) [
-          | inl need ↦ needed q need
+          | inl need ↦ asks_for q need
           | inr fault ↦ subst (IsAsked spec tree units entries) (sym fault.2) (fails fault.0 fault.1)
         ]
 

@@ -1,114 +1,118 @@
 -- Calls keep the rules of journals.
-use Rattle.std.proofs.Common.{◌≡◌, ℕ, Bool, true, false, if◌then◌else◌, List, Option, Some, None, Result, Ok, Err, IfOk, refl, ap, subst}
+use Rattle.std.proofs.Common.{◌≢◌, ◌∷◌, [], if◌then◌else◌, Bool, Err, IfOk, List, None, Ok, Option, Result, Some, false, refl, true, ℕ}
+use Rattle.vdm_kinds.specs.declared.member.OpRef.{OpRef}
 use Rattle.vdm_kinds.specs.declared.name.Name.{Name}
 use Rattle.vdm_kinds.specs.declared.place.Place.{Place}
 use Rattle.vdm_kinds.specs.declared.run_fault.RunFault.{RunFault}
 use Rattle.vdm_kinds.specs.declared.run_fault.RunFault.TheVariants.{NoReturn, TypeFault, Undefined}
 use Rattle.vdm_values.specs.declared.slot.Slot.{Slot}
 use Rattle.vdm_values.specs.declared.slot.Slot.TheVariants.{Unset, Held}
-use Rattle.abstract_syntax.specs.Values.{ValueTree, object}
 use Rattle.abstract_syntax.specs.Types.{TypeTree}
-use Rattle.abstract_syntax.specs.Expressions.{ExprTree, ExprTrees, named, select, no_exprs}
 use Rattle.abstract_syntax.specs.Statements.{StmtTree}
-use Rattle.abstract_syntax.specs.Classes.{Body, written, OperationTree, ClassTree, SpecTree, operation_named, class_named}
+use Rattle.abstract_syntax.specs.Classes.{Body, OperationTree, SpecTree, written}
+use Rattle.run_journal.specs.declared.answer.Answer.{Answer}
 use Rattle.run_journal.specs.declared.answer.Answer.TheVariants.{Done}
-use Rattle.run_journal.specs.declared.deed.Deed.TheVariants as deed
 use Rattle.run_journal.specs.declared.entry.Entry.{Entry}
-use Rattle.run_journal.specs.declared.question.Question.TheVariants.{Req, Act, Fin}
+use Rattle.run_journal.specs.declared.question.Question.TheVariants.{Act, Fin, Req}
 use Rattle.run_journal.specs.declared.thread.Thread.TheVariants.{Main}
 use Rattle.run_journal.specs.Made.{entry}
-use Rattle.vdm_legal.proofs.Numbers.{IsNumberSlot}
-use Rattle.plans.specs.Plans.{ask}
-use Rattle.vdm_meaning.specs.Calls.{Wanted, a_value, no_value, given, operation_ref, left_by, tested, finished, begun, activated, call_of, call_found, call_on_class, call_on, call_plan}
-use Rattle.vdm_meaning.specs.Tasks.{Env, inside, Flow, gave}
-use Rattle.vdm_meaning.specs.Types.{fits}
+use Rattle.run_journal.specs.Parts.{object_part}
+use Rattle.run_journal.specs.declared.deed.Deed.TheVariants as deed
+use Rattle.plans.specs.Plans.{ask, finish}
+use Rattle.vdm_legal.proofs.Known.{IsKnownSlot, known-on, slot-on}
+use Rattle.vdm_legal.proofs.Sanity.{IsSane, IsWithin, act-waits, begun-sane, behind_activation, behind_finish, behind_request, fin-waits, finished-sane, finished-within, request-sane}
+use Rattle.node_meaning.specs.Envs.{Here, Locals, inside}
+use Rattle.node_meaning.specs.Tasks.{Flow, exited, gave, next, noted, returned}
+use Rattle.node_meaning.specs.Strict.{there}
+use Rattle.node_meaning.specs.Types.{fits}
+use Rattle.node_meaning.specs.Calls.{given_slot, given, tested, finished, ended, begun, activated, requested, called, Wanted, a_value, no_value}
+use Rattle.vdm_meaning.proofs.Rules.{GivesKnown, IsSafe, IsSafeWith, MayLeave, MayRun}
+use Rattle.vdm_meaning.proofs.Parts.{IsAt, at-among, at-later, may-fail, run-behind, safe-finish, safe-value}
 use Rattle.vdm_meaning.proofs.Asking.{safe-ask}
-use Rattle.vdm_legal.proofs.Births.{IsBorn, born-there}
-use Rattle.vdm_meaning.proofs.Parts.{IsAt, at-later, run-behind, may-fail, safe-expression}
-use Rattle.vdm_meaning.proofs.Rules.{MayRun, IsKnown, GivesNumber, IsSafe}
-use Rattle.vdm_legal.proofs.Sanity.{IsSane, IsWithin, behind_request, behind_activation, behind_finish, request-sane, act-waits, begun-sane, fin-waits, finished-sane, finished-within}
-use Rattle.vdm_meaning.proofs.Types.{fits-number}
 
 -- ---- what the test of a result lets through
 
-tested-number : (declared : Option TypeTree) (slot : Slot) → IfOk (tested declared slot) IsNumberSlot
-tested-number None Unset = tt
-tested-number None (Held v) = tt
-tested-number (Some declared) Unset = tt
-tested-number (Some declared) (Held v) = by (fits declared v) refl
+tested-known : (now : List Entry) (declared : Option TypeTree) (slot : Slot) → IsKnownSlot now slot → IfOk (tested declared slot) (IsKnownSlot now)
+tested-known now None Unset h = tt
+tested-known now None (Held v) h = tt
+tested-known now (Some declared) Unset h = tt
+tested-known now (Some declared) (Held v) h = by (fits declared v)
   where
-    by : (b : Bool) → fits declared v ≡ b → IfOk (if b then Ok (Held v) else Err TypeFault) IsNumberSlot
-    by true e = fits-number declared v e
-    by false e = tt
+    by : (b : Bool) → IfOk (if b then Ok (Held v) else Err TypeFault) (IsKnownSlot now)
+    by true = h
+    by false = tt
 
-module _ (spec : SpecTree) (left : List Entry → Flow → Type 0) (first : List Entry) (from_number : (entries : List Entry) (flow : Flow) → IsSane entries → GivesNumber flow → left entries flow) where
-  safe-given : (n : Option ℕ) (now : List Entry) (env : Env) (wanted : Wanted) (place : Place) (slot : Slot) → IsAt spec first now env → IsNumberSlot slot → IsSafe spec left n first now (given wanted place slot)
-  safe-given n now env no_value place slot is_at h = (is_at.within, from_number now (gave slot) is_at.here.sane h)
-  safe-given n now env a_value place (Held v) is_at h = (is_at.within, from_number now (gave (Held v)) is_at.here.sane h)
-  safe-given n now env a_value place Unset is_at h = may-fail spec now env NoReturn place is_at.here
+module _ (spec : SpecTree) where
+  -- ---- what is given where the call stands
 
-  module _ (before : List Entry) (env : Env) (is_at : IsAt spec first before env) (class : ClassTree) (me : ℕ) (op : OperationTree) (place : Place) (wanted : Wanted) (born : IsBorn spec before me class) where
-    callee-requested : MayRun spec (behind_request before me (operation_ref class op)) (inside me class)
-    callee-requested = run-behind spec before _ _ (inside me class) (record { sane = is_at.here.sane; main = is_at.here.main; stands = born }) refl (request-sane before me (operation_ref class op) is_at.here.sane)
+  safe-given_slot : (n : Option ℕ) {first now : List Entry} {here : Here} {locals : Locals} (wanted : Wanted) (place : Place) (slot : Slot) → IsAt first now here locals → IsKnownSlot now slot → IsSafeWith spec n first now (given_slot wanted place slot locals)
+  safe-given_slot n no_value place slot is_at known = (is_at.within, (is_at.may.sane, (known, is_at.may.known)))
+  safe-given_slot n a_value place (Held v) is_at known = safe-value spec n v is_at known
+  safe-given_slot n a_value place Unset is_at known = may-fail spec NoReturn place is_at.may
 
-    callee-begun : MayRun spec (behind_activation before me (operation_ref class op)) (inside me class)
-    callee-begun = run-behind spec (behind_request before me (operation_ref class op)) _ _ (inside me class) callee-requested refl (begun-sane before me (operation_ref class op) is_at.here.sane)
+  pub safe-given : (n : Option ℕ) {first now : List Entry} {here : Here} {locals : Locals} (wanted : Wanted) (place : Place) (flow : Flow) → IsAt first now here locals → GivesKnown now flow → IsSafeWith spec n first now (given wanted place flow)
+  safe-given n wanted place (gave slot after) is_at known = safe-given_slot n wanted place slot (at-among is_at after known.1) known.0
+  safe-given n wanted place (next after) is_at known = may-fail spec Undefined place is_at.may
+  safe-given n wanted place (returned slot after) is_at known = may-fail spec Undefined place is_at.may
+  safe-given n wanted place (exited v from after) is_at known = (is_at.within, (is_at.may.sane, known))
 
-    module _ (after : List Entry) (w : IsWithin (behind_activation before me (operation_ref class op)) after) (sane : IsSane after) where
-      callee-done : MayRun spec after (inside me class)
-      callee-done = run-behind spec (behind_activation before me (operation_ref class op)) w.more after (inside me class) callee-begun w.behind sane
+  -- ---- a call on an object that is there
 
-      at-end : IsAt spec first (behind_finish after me (operation_ref class op)) env
-      at-end = at-later spec first before (behind_finish after me (operation_ref class op)) env is_at (finished-within before me (operation_ref class op) is_at.here.sane after w) (finished-sane before me (operation_ref class op) is_at.here.sane after w sane)
+  -- `own` is the class of the object, in which the body stands
+  module _ (first before : List Entry) (here : Here) (locals : Locals) (is_at : IsAt first before here locals) (me : ℕ) (there : object_part me before ≢ []) (own : Name) (op : OpRef) (operation : OperationTree) (place : Place) where
+    callee : MayRun before (inside me own op.class) []
+    callee = record { sane = is_at.may.sane; main = is_at.may.main; me = there; held = tt; known = tt }
 
-      safe-finished : (result : Result Slot RunFault) → IfOk result IsNumberSlot → IsSafe spec left (Some 1) first after (finished class me op place wanted result)
-      safe-finished (Err fault) h = may-fail spec after (inside me class) fault place callee-done
+    callee-requested : MayRun (behind_request before me op) (inside me own op.class) []
+    callee-requested =
+        run-behind before (entry Main me (deed.Req op) ∷ []) (behind_request before me op) refl (inside me own op.class) [] callee
+        (request-sane before me op is_at.may.sane)
+
+    callee-begun : MayRun (behind_activation before me op) (inside me own op.class) []
+    callee-begun =
+        run-behind (behind_request before me op) (entry Main me (deed.Act op) ∷ []) (behind_activation before me op) refl (inside me own op.class) [] callee-requested
+        (begun-sane before me op is_at.may.sane)
+
+    module _ (after : List Entry) (w : IsWithin (behind_activation before me op) after) (sane : IsSane after) where
+      callee-done : MayRun after (inside me own op.class) []
+      callee-done = run-behind (behind_activation before me op) w.more after w.behind (inside me own op.class) [] callee-begun sane
+
+      at-end : IsAt first (behind_finish after me op) here locals
+      at-end = at-later is_at (finished-within before me op is_at.may.sane after w) (finished-sane before me op is_at.may.sane after w sane)
+
+      -- what the caller goes on with, once the finish is answered
+      safe-fin : (flow : Flow) → GivesKnown (behind_finish after me op) flow → IsSafeWith spec (Some 1) first after (ask (noted (Fin me op)) (λ answer. finish flow))
+      safe-fin flow known =
+          safe-ask spec MayLeave first after 0 (λ answer. finish flow) (Fin me op) (entry Main me (deed.Fin op)) (λ a taken is. is)
+          (record { ready = (callee-done.me, fin-waits before me op is_at.may.sane after w); sane = sane })
+          (safe-finish spec (Some 0) flow at-end known)
+
+      safe-finished : (result : Result Slot RunFault) → IfOk result (IsKnownSlot after) → IsSafeWith spec (Some 1) first after (finished me op place locals result)
+      safe-finished (Err kind) h = may-fail spec kind place callee-done
       safe-finished (Ok slot) h =
-          safe-ask spec left first after 0 (λ a. given wanted place slot) (Fin me (operation_ref class op)) (entry Main me (deed.Fin (operation_ref class op))) (λ a taken is. is)
-          (record { ready = (born-there spec after me class callee-done.stands, fin-waits before me (operation_ref class op) is_at.here.sane after w); sane = sane })
-          (safe-given (Some 0) (behind_finish after me (operation_ref class op)) env wanted place slot at-end h)
+          safe-fin (gave slot locals) (slot-on after (entry Main me (deed.Fin op) ∷ []) (behind_finish after me op) refl slot h, at-end.may.known)
 
-    safe-begun : (body : Body StmtTree) → IsSafe spec left (Some 1) first (behind_activation before me (operation_ref class op)) (begun class me op place wanted body)
-    safe-begun (written body) = (
-      callee-begun,
-      λ after flow w sane. safe-finished after w sane (tested op.result_type (left_by flow)) (tested-number op.result_type (left_by flow)),
-    )
-    safe-begun _ = may-fail spec _ (inside me class) Undefined place callee-begun
+      safe-ended : (flow : Flow) → GivesKnown after flow → IsSafeWith spec (Some 1) first after (ended me op operation.result_type place locals flow)
+      safe-ended (gave slot inner) known = may-fail spec Undefined place callee-done
+      safe-ended (next inner) known = safe-finished (tested operation.result_type Unset) (tested-known after operation.result_type Unset tt)
+      safe-ended (returned slot inner) known = safe-finished (tested operation.result_type slot) (tested-known after operation.result_type slot known.0)
+      safe-ended (exited v from inner) known =
+          safe-fin (exited v from locals) (known-on after (entry Main me (deed.Fin op) ∷ []) (behind_finish after me op) refl v known.0, at-end.may.known)
 
-    safe-activated : IsSafe spec left (Some 1) first (behind_activation before me (operation_ref class op)) (activated class me op place wanted Done)
-    safe-activated = safe-begun op.body
+    safe-begun : (body : Body StmtTree) → IsSafeWith spec (Some 1) first (behind_activation before me op) (begun me own op operation.result_type place locals body)
+    safe-begun (written body) = (callee-begun, λ after flow w leaves. safe-ended after w leaves.0 flow leaves.1)
+    safe-begun _ = may-fail spec Undefined place callee-begun
 
-    safe-requested : IsSafe spec left (Some 2) first (behind_request before me (operation_ref class op)) (ask (Act me (operation_ref class op)) (activated class me op place wanted))
-    safe-requested =
-        safe-ask spec left first (behind_request before me (operation_ref class op)) 1 (activated class me op place wanted) (Act me (operation_ref class op)) (entry Main me (deed.Act (operation_ref class op))) (λ a taken is. is)
-        (record { ready = (born-there spec (behind_request before me (operation_ref class op)) me class callee-requested.stands, act-waits before me (operation_ref class op) is_at.here.sane); sane = callee-requested.sane })
-        safe-activated
+    safe-requested : (answer : Answer) → IsSafeWith spec (Some 2) first (behind_request before me op) (requested me own op operation place locals answer)
+    safe-requested answer =
+        safe-ask spec MayLeave first (behind_request before me op) 1 (activated me own op operation place locals) (Act me op) (entry Main me (deed.Act op)) (λ a taken is. is)
+        (record { ready = (callee-requested.me, act-waits before me op is_at.may.sane); sane = callee-requested.sane })
+        (safe-begun operation.body)
 
-    safe-call_of : IsSafe spec left (Some 3) first before (call_of class me op place wanted)
-    safe-call_of =
-        safe-ask spec left first before 2 (λ a. ask (Act me (operation_ref class op)) (activated class me op place wanted)) (Req me (operation_ref class op)) (entry Main me (deed.Req (operation_ref class op))) (λ a taken is. is)
-        (record { ready = born-there spec before me class born; sane = is_at.here.sane })
-        safe-requested
-
-  safe-call_found : (before : List Entry) (env : Env) (class : ClassTree) (me : ℕ) (found : Option OperationTree) (place : Place) (wanted : Wanted) → IsAt spec first before env → IsBorn spec before me class → IsSafe spec left (Some 3) first before (call_found class me found place wanted)
-  safe-call_found before env class me None place wanted is_at born = may-fail spec before env TypeFault place is_at.here
-  safe-call_found before env class me (Some op) place wanted is_at born = safe-call_of before env is_at class me op place wanted born
-
-  safe-call_on_class : (before : List Entry) (env : Env) (found : Option ClassTree) (me : ℕ) (name : Name) (place : Place) (wanted : Wanted) → IsAt spec first before env → ((class : ClassTree) → found ≡ Some class → IsBorn spec before me class) → IsSafe spec left (Some 3) first before (call_on_class found me name place wanted)
-  safe-call_on_class before env None me name place wanted is_at born = may-fail spec before env TypeFault place is_at.here
-  safe-call_on_class before env (Some class) me name place wanted is_at born = safe-call_found before env class me (operation_named class name) place wanted is_at (born class refl)
-
-  safe-call_on : (before : List Entry) (env : Env) (name : Name) (place : Place) (wanted : Wanted) (v : ValueTree) → IsAt spec first before env → IsKnown spec before v → IsSafe spec left (Some 3) first before (call_on spec name place wanted v)
-  safe-call_on before env name place wanted (object n class) is_at known =
-      safe-call_on_class before env (class_named spec class) n name place wanted is_at (λ found e.
-      let itself = known.2.known in
-      let same : class ≡ known.0.name = known.1 in
-      let which : known.0 ≡ found = cc (ap (class_named spec) same) in
-      subst (IsBorn spec before n) which known.2)
-  safe-call_on before env name place wanted _ is_at known = may-fail spec before env TypeFault place is_at.here
-
-  pub safe-call_plan : (before : List Entry) (env : Env) (head : ExprTree) (arguments : ExprTrees) (place : Place) (wanted : Wanted) → IsAt spec first before env → IsSafe spec left (Some 3) first before (call_plan spec env head arguments place wanted)
-  safe-call_plan before (inside me class) (named name name_place) no_exprs place wanted is_at = safe-call_found before (inside me class) class me (operation_named class name) place wanted is_at is_at.here.stands
-  safe-call_plan before env (select target name name_place dot) no_exprs place wanted is_at =
-      safe-expression spec left (Some 3) first before env target place (call_on spec name place wanted) is_at (λ later v at_then known. safe-call_on later env name place wanted v at_then known)
-  safe-call_plan before env _ _ place wanted is_at = may-fail spec before env TypeFault place is_at.here
+  -- a call of what is no operation of its class is a fault
+  pub safe-called : (first before : List Entry) (here : Here) (locals : Locals) → IsAt first before here locals → (me : ℕ) → object_part me before ≢ [] → (own : Name) (op : OpRef) (operation : Option OperationTree) (place : Place) → IsSafe spec first before (called me own op operation place locals)
+  safe-called first before here locals is_at me there own op None place = may-fail spec TypeFault place is_at.may
+  safe-called first before here locals is_at me there own op (Some operation) place =
+      safe-ask spec MayLeave first before 2 (requested me own op operation place locals) (Req me op) (entry Main me (deed.Req op)) (λ a taken is. is)
+      (record { ready = there; sane = is_at.may.sane })
+      (safe-requested first before here locals is_at me there own op operation place Done)

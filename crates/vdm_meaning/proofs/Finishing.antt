@@ -6,10 +6,10 @@ use Rattle.abstract_syntax.specs.Expressions.{ExprTree}
 use Rattle.run_journal.specs.declared.entry.Entry.{Entry}
 use Rattle.vdm_legal.specs.Order.{IsInOrder}
 use Rattle.vdm_legal.specs.Finishes.{Finish, finish_of}
+use Rattle.vdm_legal.proofs.Journals.{main_answers}
 use Rattle.vdm_meaning.specs.Runs.{IsRun}
 use Rattle.vdm_meaning.proofs.AskedQuestions.{asked, most_answers}
 use Rattle.vdm_meaning.proofs.GoingOn.{still_asks, run-goes_on}
-use Rattle.vdm_legal.proofs.Journals.{main_answers}
 use Rattle.vdm_meaning.proofs.RunSteps.{main_outcome}
 
 module _ (spec : SpecTree) (tree : ExprTree) (units : ℕ) where

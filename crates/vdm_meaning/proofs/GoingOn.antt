@@ -15,17 +15,17 @@ use Rattle.run_journal.specs.declared.thread.Thread.TheVariants.{Main}
 use Rattle.run_journal.specs.Made.{made, entry}
 use Rattle.plans.specs.Plans.{Outcome, gives, faults, needs}
 use Rattle.plans.specs.Steps.{answers, last}
-use Rattle.vdm_meaning.specs.Faults.{Fault}
-use Rattle.vdm_meaning.specs.Main.{asks, standing_of, main_code}
 use Rattle.vdm_legal.specs.Order.{IsInOrder}
 use Rattle.vdm_legal.specs.Finishes.{decided, finish_of}
-use Rattle.vdm_meaning.specs.Runs.{IsRun}
-use Rattle.vdm_meaning.specs.Tasks.{Flow}
-use Rattle.vdm_meaning.proofs.AskedQuestions.{has_failed, asked-ready}
 use Rattle.vdm_legal.proofs.Journals.{main_answers, neither, order-on, undecided-parts}
+use Rattle.vdm_legal.proofs.Taken.{ready-answer}
+use Rattle.node_meaning.specs.Faults.{Fault}
+use Rattle.node_meaning.specs.Tasks.{Flow, Need, Query, noted, needed}
+use Rattle.vdm_meaning.specs.Main.{asks, standing_of, main_code}
+use Rattle.vdm_meaning.specs.Runs.{IsRun}
+use Rattle.vdm_meaning.proofs.AskedQuestions.{has_failed, asked-ready}
 use Rattle.vdm_meaning.proofs.Runs.{run_front, run_on, legal-for_main, run-last}
 use Rattle.vdm_meaning.proofs.RunSteps.{IsMainSound, cut, last-steps, main_outcome, run-sound, steps_of}
-use Rattle.vdm_legal.proofs.Taken.{ready-answer}
 
 -- main's entry for a failure decides the run
 failure-decides : (fault : RunFault) (exit : Slot) (place : Place) (a : Answer) (e : Entry) → made Main (Fail fault exit place) a ≡ Some e → decided e.thread e.deed ≡ None → ⊥
@@ -68,12 +68,17 @@ module _ (spec : SpecTree) (tree : ExprTree) (units : ℕ) where
       let undecided : finish_of (there.front ++ next.0 ∷ next.1) ≡ None = ap finish_of (sym all) ∙ none in
       failure-next there.front next.0 f run_then there.there (neither _ _ (undecided-parts there.front (next.0 ∷ next.1) undecided).1).0
 
+  -- main needs no need as such
+  never-needs : (entries : List Entry) (need : Need) → IsRun spec tree units entries → main_outcome spec tree units (main_answers entries) ≡ needs (needed need) → ⊥
+  never-needs entries need h e = (subst (IsMainSound spec tree units entries) e (run-sound spec tree units entries h)).0
+
   -- behind an unfinished run main asks
-  pub still_asks : (entries : List Entry) → IsRun spec tree units entries → finish_of entries ≡ None → (o : Outcome Flow Question Answer Fault) → main_outcome spec tree units (main_answers entries) ≡ o → (q : Question) × (main_code spec tree units (main_answers entries) ≡ asks q)
+  pub still_asks : (entries : List Entry) → IsRun spec tree units entries → finish_of entries ≡ None → (o : Outcome Flow Query Answer Fault) → main_outcome spec tree units (main_answers entries) ≡ o → (q : Question) × (main_code spec tree units (main_answers entries) ≡ asks q)
   still_asks entries h none (gives flow left u) e = absurd (given-finished entries flow left u h e none)
   still_asks entries h none (faults f []) e = (Fail f.fault f.exit f.place, ap standing_of e)
   still_asks entries h none (faults f (a ∷ left)) e = absurd (failed-finished entries f a left h e none)
-  still_asks entries h none (needs q) e = (q, ap standing_of e)
+  still_asks entries h none (needs (noted q)) e = (q, ap standing_of e)
+  still_asks entries h none (needs (needed need)) e = absurd (never-needs entries need h e)
 
   pub run-goes_on : (entries : List Entry) → IsRun spec tree units entries → IsInOrder spec entries → finish_of entries ≡ None → (next : Entry) × IsRun spec tree units (entries ++ next ∷ []) × IsInOrder spec (entries ++ next ∷ [])
   run-goes_on entries h order none =

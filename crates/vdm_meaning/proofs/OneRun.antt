@@ -8,10 +8,10 @@ use Rattle.run_journal.specs.declared.thread.Thread.TheVariants.{Main}
 use Rattle.run_journal.specs.Made.{made}
 use Rattle.vdm_legal.specs.Order.{IsNumbered, AreNumbered, IsInOrder}
 use Rattle.vdm_legal.specs.Finishes.{Finish, finish_of}
+use Rattle.vdm_legal.proofs.Taken.{legal-entry, one-entry}
 use Rattle.vdm_meaning.specs.Runs.{IsLegal, AreLegal, IsRun}
 use Rattle.vdm_meaning.proofs.AskedQuestions.{asked-unfinished}
 use Rattle.vdm_meaning.proofs.Runs.{run_front, legal-for_main, run-last}
-use Rattle.vdm_legal.proofs.Taken.{legal-entry, one-entry}
 
 -- one of the lists is a front of the other
 abbrev pub IsFrontEitherWay : List Entry → List Entry → Type 0

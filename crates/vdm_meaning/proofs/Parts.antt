@@ -1,75 +1,166 @@
 -- Parts of plans that keep the rules: where a plan stands, how it fails, and expressions whose value is wanted.
-use Rattle.std.proofs.Common.{◌≡◌, Bool, true, false, if◌then◌else◌, List, ◌++◌, refl}
-use Rattle.std.specs.Prelude.{ℕ, Option}
+use Rattle.std.proofs.Common.{◌≡◌, ◌++◌, if◌then◌else◌, Bool, List, None, Option, Some, false, take, true, ℕ}
+use Rattle.std.specs.List.{AllByRecursion as Each}
+use Rattle.vdm_kinds.specs.declared.member.VarRef.{VarRef}
+use Rattle.vdm_kinds.specs.declared.name.Name.{Name}
 use Rattle.vdm_kinds.specs.declared.place.Place.{Place}
 use Rattle.vdm_kinds.specs.declared.run_fault.RunFault.{RunFault}
 use Rattle.vdm_kinds.specs.declared.run_fault.RunFault.TheVariants.{Undefined}
-use Rattle.vdm_values.specs.declared.slot.Slot.TheVariants.{Unset, Held}
-use Rattle.abstract_syntax.specs.Values.{ValueTree, number}
+use Rattle.vdm_values.specs.declared.slot.Slot.{Slot}
+use Rattle.vdm_values.specs.declared.slot.Slot.TheVariants.{Unset, Held as Holds}
+use Rattle.abstract_syntax.specs.Values.{ValueTree}
 use Rattle.abstract_syntax.specs.Expressions.{ExprTree}
 use Rattle.abstract_syntax.specs.Classes.{SpecTree}
+use Rattle.value_parts.proofs.Everywhere.{each_take}
 use Rattle.run_journal.specs.declared.entry.Entry.{Entry}
-use Rattle.vdm_legal.proofs.Numbers.{IsNumber}
-use Rattle.plans.specs.Plans.{part}
-use Rattle.vdm_meaning.specs.Faults.{fault_at}
-use Rattle.vdm_meaning.specs.Tasks.{Env, outside, inside, expr_in, Flow, gave, next, returned, Code, with_value}
-use Rattle.vdm_legal.proofs.Births.{born-on}
-use Rattle.vdm_meaning.proofs.Rules.{StandsIn, MayRun, IsKnown, GivesKnown, GivesNumber, MayFail, IsSafe}
-use Rattle.vdm_legal.proofs.Sanity.{IsSane, IsWithin, within-self, within-then, there-on}
+use Rattle.plans.specs.Plans.{become, finish, part}
+use Rattle.vdm_legal.proofs.Known.{IsKnown, IsKnownSlot, each_wider, known-on, slot-on, there-on}
+use Rattle.vdm_legal.proofs.Sanity.{IsSane, IsWithin, within-self, within-then}
+use Rattle.node_meaning.specs.Faults.{fault_at}
+use Rattle.node_meaning.specs.Tasks.{Code, Flow, cut_to, evaluated, exited, expr_in, gave, next, returned, value, with_value}
+use Rattle.node_meaning.specs.Envs.{Locals, Here, Held, at}
+use Rattle.vdm_meaning.proofs.Rules.{AreKnown, GivesKnown, HasObject, HoldsKnown, IsSafe, IsSafeWith, MayFail, MayRun}
+
+-- ---- what is known behind some entries is known behind later ones
+
+-- each of some values is known
+abbrev pub EachKnown : List Entry → List ValueTree → Type 0
+EachKnown entries = Each (IsKnown entries)
+
+module _ (now later : List Entry) (w : IsWithin now later) where
+  pub values-on : (vs : List ValueTree) → EachKnown now vs → EachKnown later vs
+  values-on = each_wider (IsKnown now) (IsKnown later) (known-on now w.more later w.behind)
+
+  pub lists-on : (lists : List (List ValueTree)) → Each (EachKnown now) lists → Each (EachKnown later) lists
+  lists-on = each_wider (EachKnown now) (EachKnown later) values-on
+
+  pub slots-on : (slots : List Slot) → Each (IsKnownSlot now) slots → Each (IsKnownSlot later) slots
+  slots-on = each_wider (IsKnownSlot now) (IsKnownSlot later) (slot-on now w.more later w.behind)
+
+module _ (now more later : List Entry) (e : later ≡ now ++ more) where
+  locals-on : (locals : Locals) → AreKnown now locals → AreKnown later locals
+  locals-on =
+      each_wider (λ (l : Name × Slot). IsKnownSlot now l.1) (λ (l : Name × Slot). IsKnownSlot later l.1)
+      (λ (l : Name × Slot). slot-on now more later e l.1)
+
+  object-on : (me : Option ℕ) → HasObject now me → HasObject later me
+  object-on None h = tt
+  object-on (Some me) h = there-on now more later e me h
+
+  held-on : (held : Option Held) → HoldsKnown now held → HoldsKnown later held
+  held-on None h = tt
+  held-on (Some held) h =
+      each_wider (λ (v : VarRef × Slot). IsKnownSlot now v.1) (λ (v : VarRef × Slot). IsKnownSlot later v.1)
+      (λ (v : VarRef × Slot). slot-on now more later e v.1) held.variables h
+
+  -- what may run behind some entries may run behind further ones
+  pub run-behind : (here : Here) (locals : Locals) → MayRun now here locals → IsSane later → MayRun later here locals
+  run-behind here locals h sane = record {
+    sane = sane;
+    main = there-on now more later e 0 h.main;
+    me = object-on here.me h.me;
+    held = held-on here.held h.held;
+    known = locals-on locals h.known;
+  }
 
 -- ---- where a plan stands
 
-stands-on : (spec : SpecTree) (before more after : List Entry) (env : Env) → after ≡ before ++ more → StandsIn spec before env → StandsIn spec after env
-stands-on spec before more after outside e stands = tt
-stands-on spec before more after (inside me class) e stands = born-on spec before more after me class e stands
-
--- what may run behind some entries may run behind further ones
-pub run-behind : (spec : SpecTree) (before more after : List Entry) (env : Env) → MayRun spec before env → after ≡ before ++ more → IsSane after → MayRun spec after env
-run-behind spec before more after env h e sane = record { sane = sane; main = there-on 0 before more after e h.main; stands = stands-on spec before more after env e h.stands }
-
--- a plan that began behind the first entries stands behind later ones
-pub record IsAt (spec : SpecTree) (first now : List Entry) (env : Env) : Type 0 where
+-- a plan that began behind the first entries stands behind later ones, with these locals
+pub record IsAt (first now : List Entry) (here : Here) (locals : Locals) : Type 0 where
   pub within : IsWithin first now
-  pub here : MayRun spec now env
+  pub may : MayRun now here locals
 
-pub at-start : (spec : SpecTree) (first : List Entry) (env : Env) → MayRun spec first env → IsAt spec first first env
-at-start spec first env h = record { within = within-self first; here = h }
+pub at-start : {first : List Entry} {here : Here} {locals : Locals} → MayRun first here locals → IsAt first first here locals
+at-start {first = first} h = record { within = within-self first; may = h }
 
-pub at-later : (spec : SpecTree) (first now later : List Entry) (env : Env) → IsAt spec first now env → IsWithin now later → IsSane later → IsAt spec first later env
-at-later spec first now later env at w sane = record { within = within-then first now later at.within w; here = run-behind spec now w.more later env at.here w.behind sane }
+pub at-later : {first now later : List Entry} {here : Here} {locals : Locals} → IsAt first now here locals → IsWithin now later → IsSane later → IsAt first later here locals
+at-later {first = first} {now = now} {later = later} {here = here} {locals = locals} is_at w sane = record {
+  within = within-then first now later is_at.within w;
+  may = run-behind now w.more later w.behind here locals is_at.may sane;
+}
+
+-- with other locals
+pub at-among : {first now : List Entry} {here : Here} {locals : Locals} → IsAt first now here locals → (others : Locals) → AreKnown now others → IsAt first now here others
+at-among is_at others known = record {
+  within = is_at.within;
+  may = record { sane = is_at.may.sane; main = is_at.may.main; me = is_at.may.me; held = is_at.may.held; known = known };
+}
+
+-- what was left behind later entries goes on there, with the locals that were left
+pub at-behind : {first now later : List Entry} {here : Here} {locals : Locals} → IsAt first now here locals → IsWithin now later → IsSane later → (others : Locals) → AreKnown later others → IsAt first later here others
+at-behind is_at w sane others known = at-among (at-later is_at w sane) others known
+
+-- the first so many of known locals are known
+cut-known : (now : List Entry) (count : ℕ) (locals : Locals) → AreKnown now locals → AreKnown now (take count locals)
+cut-known now count locals known = each_take (λ (l : Name × Slot). IsKnownSlot now l.1) count locals known
+
+pub at-cut : {first now : List Entry} {here : Here} {locals : Locals} (count : ℕ) → IsAt first now here locals → IsAt first now here (take count locals)
+at-cut {now = now} {locals = locals} count is_at = at-among is_at (take count locals) (cut-known now count locals is_at.may.known)
 
 -- ---- faults
 
 -- a fault that is no exit may be failed with wherever tasks are done
-pub may-fail : (spec : SpecTree) (now : List Entry) (env : Env) (fault : RunFault) (place : Place) → MayRun spec now env → MayFail spec now (fault_at fault place)
-may-fail spec now env fault place h = record { ready = h.main; sane = h.sane }
+pub may-fail : (spec : SpecTree) {now : List Entry} {here : Here} {locals : Locals} (kind : RunFault) (place : Place) → MayRun now here locals → MayFail spec now (fault_at kind place)
+may-fail spec kind place h = record { ready = h.main; sane = h.sane }
+
+-- ---- what is done next
+
+-- what is done from any known locals behind any later entries keeps the rules
+abbrev pub Goes : SpecTree → List Entry → Here → List Entry → (Locals → Code) → Type 0
+Goes spec first here now f =
+    (later : List Entry) (locals : Locals) → IsWithin now later → IsAt first later here locals → IsSafe spec first later (f locals)
+
+-- ... and with anything that has a property
+abbrev pub GoesWith : {X : Type 0} → (List Entry → X → Type 0) → SpecTree → List Entry → Here → List Entry → (X → Locals → Code) → Type 0
+GoesWith {X} Q spec first here now f =
+    (later : List Entry) (x : X) (locals : Locals) → IsWithin now later → IsAt first later here locals → Q later x → IsSafe spec first later (f x locals)
+
+pub goes-later : {X : Type 0} (Q : List Entry → X → Type 0) (spec : SpecTree) (first : List Entry) (here : Here) (now later : List Entry) (f : X → Locals → Code) → IsWithin now later → GoesWith Q spec first here now f → GoesWith Q spec first here later f
+goes-later Q spec first here now later f w goes end x locals v is_at q = goes end x locals (within-then now later end w v) is_at q
 
 -- ---- values
 
-pub known-number : (spec : SpecTree) (entries : List Entry) (v : ValueTree) → IsNumber v → IsKnown spec entries v
-known-number spec entries (number n) h = tt
-known-number spec entries _ h = absurd h
+module _ (spec : SpecTree) (n : Option ℕ) where
+  pub safe-finish : {first now : List Entry} {here : Here} {locals : Locals} (flow : Flow) → IsAt first now here locals → GivesKnown now flow → IsSafeWith spec n first now (finish flow)
+  safe-finish flow is_at known = (is_at.within, (is_at.may.sane, known))
 
-pub gives-known : (spec : SpecTree) (entries : List Entry) (flow : Flow) → GivesNumber flow → GivesKnown spec entries flow
-gives-known spec entries (gave (Held v)) h = known-number spec entries v h
-gives-known spec entries _ h = tt
+  pub safe-value : {first now : List Entry} {here : Here} {locals : Locals} (v : ValueTree) → IsAt first now here locals → IsKnown now v → IsSafeWith spec n first now (value v locals)
+  safe-value v is_at known = (is_at.within, (is_at.may.sane, (known, is_at.may.known)))
 
-module _ (spec : SpecTree) (left : List Entry → Flow → Type 0) (n : Option ℕ) (first now : List Entry) where
-  pub safe-if : (b : Bool) (p q : Code) → (b ≡ true → IsSafe spec left n first now p) → IsSafe spec left n first now q → IsSafe spec left n first now (if b then p else q)
-  safe-if true p q h k = h refl
-  safe-if false p q h k = k
+  -- what is done with a value that came, or the fault where none came
+  pub safe-with_value : {first now : List Entry} {here : Here} {locals : Locals} (place : Place) (further : ValueTree → Locals → Code) (flow : Flow) → IsAt first now here locals → GivesKnown now flow → ((v : ValueTree) (after : Locals) → IsKnown now v → AreKnown now after → IsSafeWith spec n first now (further v after)) → IsSafeWith spec n first now (with_value place further flow)
+  safe-with_value place further (gave (Holds v) after) is_at known goes = goes v after known.0 known.1
+  safe-with_value place further (gave Unset after) is_at known goes = may-fail spec Undefined place is_at.may
+  safe-with_value place further (next after) is_at known goes = may-fail spec Undefined place is_at.may
+  safe-with_value place further (returned slot after) is_at known goes = may-fail spec Undefined place is_at.may
+  safe-with_value place further (exited v from after) is_at known goes = (is_at.within, (is_at.may.sane, known))
 
-  safe-with_value : (env : Env) (place : Place) (further : ValueTree → Code) (flow : Flow) → MayRun spec now env → GivesKnown spec now flow → ((v : ValueTree) → IsKnown spec now v → IsSafe spec left n first now (further v)) → IsSafe spec left n first now (with_value place further flow)
-  safe-with_value env place further (gave (Held v)) here known h = h v known
-  safe-with_value env place further (gave Unset) here known h = may-fail spec now env Undefined place here
-  safe-with_value env place further next here known h = may-fail spec now env Undefined place here
-  safe-with_value env place further (returned slot) here known h = may-fail spec now env Undefined place here
+module _ (spec : SpecTree) where
+  pub safe-if : (first now : List Entry) (b : Bool) (p q : Code) → IsSafe spec first now p → IsSafe spec first now q → IsSafe spec first now (if b then p else q)
+  safe-if first now true p q h k = h
+  safe-if first now false p q h k = k
 
--- a part that is an expression, and what is done with its value
-pub safe-expression : (spec : SpecTree) (left : List Entry → Flow → Type 0) (n : Option ℕ) (first now : List Entry) (env : Env) (e : ExprTree) (place : Place) (further : ValueTree → Code) → IsAt spec first now env → ((later : List Entry) (v : ValueTree) → IsAt spec first later env → IsKnown spec later v → IsSafe spec left n first later (further v)) → IsSafe spec left n first now (part (expr_in env e) (with_value place further))
-safe-expression spec left n first now env e place further is_at h = (
-  is_at.here,
-  λ later flow w leaves.
-      let then_at = at-later spec first now later env is_at w leaves.0 in
-      safe-with_value spec left n first later env place further flow then_at.here leaves.1 (λ v known. h later v then_at known),
-)
+  -- ---- parts
+
+  -- an expression, and what is done with its value
+  pub safe-evaluated : (first now : List Entry) (here : Here) (locals : Locals) (tree : ExprTree) (place : Place) (further : ValueTree → Locals → Code) → IsAt first now here locals → GoesWith IsKnown spec first here now further → IsSafe spec first now (evaluated here locals tree place further)
+  safe-evaluated first now here locals tree place further is_at goes = (
+    is_at.may,
+    λ later flow w leaves.
+        safe-with_value spec (Some 3) place further flow (at-later is_at w leaves.0) leaves.1
+        (λ v after known others. goes later v after w (at-behind is_at w leaves.0 after others) known),
+  )
+
+  -- an expression in the place of the node
+  pub safe-become : (first now : List Entry) (here : Here) (locals : Locals) (tree : ExprTree) → IsAt first now here locals → IsSafe spec first now (become (expr_in (at here locals) tree))
+  safe-become first now here locals tree is_at = (is_at.may, λ later flow w leaves. (within-then first now later is_at.within w, leaves))
+
+  safe-cut : {first now : List Entry} {here : Here} {locals : Locals} (count : ℕ) (flow : Flow) → IsAt first now here locals → GivesKnown now flow → IsSafe spec first now (cut_to count flow)
+  safe-cut {now = now} count (gave slot after) is_at known = (is_at.within, (is_at.may.sane, (known.0, cut-known now count after known.1)))
+  safe-cut {now = now} count (next after) is_at known = (is_at.within, (is_at.may.sane, cut-known now count after known))
+  safe-cut {now = now} count (returned slot after) is_at known = (is_at.within, (is_at.may.sane, (known.0, cut-known now count after known.1)))
+  safe-cut {now = now} count (exited v from after) is_at known = (is_at.within, (is_at.may.sane, (known.0, cut-known now count after known.1)))
+
+  -- ... without the locals that were bound for it
+  pub safe-within : (first now : List Entry) (here : Here) (count : ℕ) (body : ExprTree) (locals : Locals) → IsAt first now here locals → IsSafe spec first now (part (expr_in (at here locals) body) (cut_to count))
+  safe-within first now here count body locals is_at = (is_at.may, λ later flow w leaves. safe-cut count flow (at-later is_at w leaves.0) leaves.1)

@@ -1,29 +1,34 @@
 -- The rules of journals: which question may be asked behind a list of entries, which task begun, what a task may leave, and what it may fail with.
-use Rattle.std.proofs.Common.{◌≡◌, ◌≢◌, List, [], ◌∷◌, ◌++◌, Some}
-use Rattle.std.specs.Prelude.{ℕ, Option}
-use Rattle.vdm_values.specs.declared.slot.Slot.TheVariants.{Held}
-use Rattle.abstract_syntax.specs.Values.{ValueTree, number, object}
-use Rattle.abstract_syntax.specs.Classes.{ClassTree, SpecTree}
+use Rattle.std.proofs.Common.{◌≡◌, ◌≢◌, ◌++◌, ◌∷◌, [], List, None, Option, Some, ℕ}
+use Rattle.std.specs.List.{AllByRecursion as Each}
+use Rattle.vdm_kinds.specs.declared.member.VarRef.{VarRef}
+use Rattle.vdm_kinds.specs.declared.name.Name.{Name}
+use Rattle.vdm_values.specs.declared.slot.Slot.{Slot}
+use Rattle.abstract_syntax.specs.Classes.{SpecTree}
 use Rattle.run_journal.specs.declared.answer.Answer.{Answer}
 use Rattle.run_journal.specs.declared.entry.Entry.{Entry}
 use Rattle.run_journal.specs.declared.question.Question.{Question}
 use Rattle.run_journal.specs.declared.question.Question.TheVariants.{Fail}
-use Rattle.vdm_legal.proofs.Numbers.{IsNumberSlot}
 use Rattle.run_journal.specs.Parts.{object_part}
 use Rattle.plans.specs.Steps.{Rules, Safe}
-use Rattle.vdm_meaning.specs.Faults.{Fault}
-use Rattle.vdm_meaning.specs.Main.{end_slot}
 use Rattle.vdm_legal.specs.Ready.{IsReady}
-use Rattle.vdm_meaning.specs.Tasks.{Env, outside, inside, Task, expr_in, call_in, stmt_in, Flow, gave, Code}
-use Rattle.vdm_legal.proofs.Births.{IsBorn}
+use Rattle.vdm_legal.proofs.Known.{IsKnown, IsKnownSlot}
 use Rattle.vdm_legal.proofs.Sanity.{IsSane, IsWithin}
 use Rattle.vdm_legal.proofs.Taken.{IsEntryFor}
+use Rattle.node_meaning.specs.Faults.{Fault}
+use Rattle.node_meaning.specs.Tasks.{Code, Flow, Query, Task, call_in, exited, expr_in, gave, needed, next, noted, returned, stmt_in}
+use Rattle.node_meaning.specs.Envs.{Locals, Here, Held}
 
 -- ---- questions and faults
 
 pub record MayAsk (spec : SpecTree) (before : List Entry) (q : Question) : Type 0 where
   pub ready : IsReady spec before q
   pub sane : IsSane before
+
+-- a thread asks no need as such
+abbrev pub MayNeed : SpecTree → List Entry → Query → Type 0
+MayNeed spec before (noted q) = MayAsk spec before q
+MayNeed spec before (needed need) = ⊥
 
 -- main may ask to fail with it
 abbrev pub MayFail : SpecTree → List Entry → Fault → Type 0
@@ -35,59 +40,67 @@ pub record IsTaken (spec : SpecTree) (before : List Entry) (q : Question) (a : A
   pub is : IsEntryFor spec before q a taken
   pub last : after ≡ before ++ taken ∷ []
 
+abbrev pub IsAnswered : SpecTree → List Entry → Query → Answer → List Entry → Type 0
+IsAnswered spec before (noted q) a after = IsTaken spec before q a after
+IsAnswered spec before (needed need) a after = ⊥
+
 -- ---- tasks
 
--- the object of whose operation a task is a part was born
-abbrev pub StandsIn : SpecTree → List Entry → Env → Type 0
-StandsIn spec entries outside = Unit {0}
-StandsIn spec entries (inside me class) = IsBorn spec entries me class
+-- the object on which a node stands is there, where it stands on one
+abbrev pub HasObject : List Entry → Option ℕ → Type 0
+HasObject entries None = Unit {0}
+HasObject entries (Some me) = object_part me entries ≢ []
 
--- tasks are done in sane journals, once main has an object
-pub record MayRun (spec : SpecTree) (entries : List Entry) (env : Env) : Type 0 where
+-- what a predicate holds is known
+abbrev pub HoldsKnown : List Entry → Option Held → Type 0
+HoldsKnown entries None = Unit {0}
+HoldsKnown entries (Some held) = Each (λ (v : VarRef × Slot). IsKnownSlot entries v.1) held.variables
+
+abbrev pub AreKnown : List Entry → Locals → Type 0
+AreKnown entries = Each (λ (l : Name × Slot). IsKnownSlot entries l.1)
+
+-- tasks are done in sane journals, once main has an object; and from known locals
+pub record MayRun (entries : List Entry) (here : Here) (locals : Locals) : Type 0 where
   pub sane : IsSane entries
   pub main : object_part 0 entries ≢ []
-  pub stands : StandsIn spec entries env
+  pub me : HasObject entries here.me
+  pub held : HoldsKnown entries here.held
+  pub known : AreKnown entries locals
 
-abbrev pub MayBegin : SpecTree → List Entry → Task → Type 0
-MayBegin spec entries (expr_in env tree) = MayRun spec entries env
-MayBegin spec entries (call_in env tree) = MayRun spec entries env
-MayBegin spec entries (stmt_in env tree) = MayRun spec entries env
+abbrev pub MayBegin : List Entry → Task → Type 0
+MayBegin entries (expr_in env tree) = MayRun entries env.here env.locals
+MayBegin entries (call_in env tree) = MayRun entries env.here env.locals
+MayBegin entries (stmt_in env tree) = MayRun entries env.here env.locals
 
 -- ---- results
 
--- a number, or an object that was born
-abbrev pub IsKnown : SpecTree → List Entry → ValueTree → Type 0
-IsKnown spec entries (number n) = Unit {0}
-IsKnown spec entries (object n name) = (class : ClassTree) × (name ≡ class.name) × IsBorn spec entries n class
-IsKnown spec entries _ = ⊥
+abbrev pub GivesKnown : List Entry → Flow → Type 0
+GivesKnown entries (gave slot locals) = IsKnownSlot entries slot × AreKnown entries locals
+GivesKnown entries (next locals) = AreKnown entries locals
+GivesKnown entries (returned slot locals) = IsKnownSlot entries slot × AreKnown entries locals
+GivesKnown entries (exited v from locals) = IsKnown entries v × AreKnown entries locals
 
-abbrev pub GivesKnown : SpecTree → List Entry → Flow → Type 0
-GivesKnown spec entries (gave (Held v)) = IsKnown spec entries v
-GivesKnown spec entries _ = Unit {0}
-
--- a number, or no value
-abbrev pub GivesNumber : Flow → Type 0
-GivesNumber flow = IsNumberSlot (end_slot flow)
-
-abbrev pub MayLeave : SpecTree → Task → List Entry → Flow → Type 0
-MayLeave spec (expr_in env tree) entries flow = IsSane entries × GivesKnown spec entries flow
-MayLeave spec (call_in env tree) entries flow = IsSane entries × GivesNumber flow
-MayLeave spec (stmt_in env tree) entries flow = IsSane entries
+abbrev pub MayLeave : List Entry → Flow → Type 0
+MayLeave entries flow = IsSane entries × GivesKnown entries flow
 
 -- ---- the rules
 
 -- a call asks three questions: for the call, for its activation, and to finish; and no task asks more of its own
-abbrev pub rules : SpecTree → Rules Task Flow Question Answer Fault (List Entry)
+abbrev pub rules : SpecTree → Rules Task Flow Query Answer Fault (List Entry)
 rules spec = record {
-  Takes = IsTaken spec;
-  Ready = MayAsk spec;
-  Fits = MayBegin spec;
+  Takes = IsAnswered spec;
+  Ready = MayNeed spec;
+  Fits = MayBegin;
   Within = IsWithin;
-  Leaves = MayLeave spec;
+  Leaves = λ task. MayLeave;
   Fails = MayFail spec;
   own = Some 3;
 }
 
 -- a plan that keeps the rules of journals behind the entries, with at most n questions of its own
-abbrev pub IsSafe : SpecTree → (List Entry → Flow → Type 0) → Option ℕ → List Entry → List Entry → Code → Type 0
-IsSafe spec left n first entries code = Safe (rules spec) left n first entries code
+abbrev pub IsSafeWith : SpecTree → Option ℕ → List Entry → List Entry → Code → Type 0
+IsSafeWith spec n first entries code = Safe (rules spec) MayLeave n first entries code
+
+-- ... with as many as a task may ask
+abbrev pub IsSafe : SpecTree → List Entry → List Entry → Code → Type 0
+IsSafe spec first entries code = IsSafeWith spec (Some 3) first entries code

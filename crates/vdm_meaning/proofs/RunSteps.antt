@@ -11,17 +11,17 @@ use Rattle.plans.specs.Plans.{Outcome, needs, run, meaning}
 use Rattle.plans.specs.Steps.{Step, answers, last, Plays, MayHaveAsked, SoundBy}
 use Rattle.plans.proofs.Playing.{plays-same}
 use Rattle.plans.proofs.Sound.{sound}
-use Rattle.vdm_meaning.specs.Faults.{Fault}
 use Rattle.vdm_legal.specs.ClassObjects.{classes_of}
-use Rattle.vdm_meaning.specs.Main.{asks, standing_of, main_plan}
-use Rattle.vdm_meaning.specs.Runs.{IsLegal, AreLegal, IsRun}
-use Rattle.vdm_meaning.specs.TaskPlans.{plan_of}
-use Rattle.vdm_meaning.specs.Tasks.{Flow, spent}
 use Rattle.vdm_legal.proofs.Journals.{main_answers, made-back}
-use Rattle.vdm_meaning.proofs.Main.{LeavesAnEnd, safe-main}
-use Rattle.vdm_meaning.proofs.Rules.{IsTaken, rules}
-use Rattle.vdm_meaning.proofs.Runs.{legal-main, legal-for_main, main_answers-behind}
 use Rattle.vdm_legal.proofs.Taken.{legal-entry}
+use Rattle.node_meaning.specs.Faults.{Fault}
+use Rattle.node_meaning.specs.TaskPlans.{plan_of}
+use Rattle.node_meaning.specs.Tasks.{Flow, Query, noted, needed, spent}
+use Rattle.vdm_meaning.specs.Main.{asks, over, standing_of, of_thread, main_plan}
+use Rattle.vdm_meaning.specs.Runs.{IsLegal, AreLegal, IsRun}
+use Rattle.vdm_meaning.proofs.Main.{LeavesAnEnd, safe-main}
+use Rattle.vdm_meaning.proofs.Rules.{IsTaken, IsAnswered, rules}
+use Rattle.vdm_meaning.proofs.Runs.{legal-main, legal-for_main, main_answers-behind}
 use Rattle.vdm_meaning.proofs.TaskPlans.{tasks-keep}
 
 -- each entry's answer, and the entries with it
@@ -67,11 +67,11 @@ cut before (x ∷ entries) (step ∷ taken) more e =
 -- ---- what main comes to
 
 -- what main comes to with these answers
-abbrev pub main_outcome : SpecTree → ExprTree → ℕ → List Answer → Outcome Flow Question Answer Fault
-main_outcome spec tree units bs = run (meaning (plan_of spec) spent) (main_plan spec tree) bs units
+abbrev pub main_outcome : SpecTree → ExprTree → ℕ → List Answer → Outcome Flow Query Answer Fault
+main_outcome spec tree units bs = run (meaning (plan_of (of_thread spec)) spent) (main_plan spec tree) bs units
 
 -- it is sound behind a run: main asks for each class object and to end, and its tasks three questions for each unit
-abbrev pub IsMainSound : SpecTree → ExprTree → ℕ → List Entry → Outcome Flow Question Answer Fault → Type 0
+abbrev pub IsMainSound : SpecTree → ExprTree → ℕ → List Entry → Outcome Flow Query Answer Fault → Type 0
 IsMainSound spec tree units entries o =
     SoundBy (rules spec) LeavesAnEnd (MayHaveAsked (Some 3) (Some (suc (length (classes_of spec)))) units) [] [] (steps_of [] entries) (main_outcome spec tree units) o
 
@@ -84,11 +84,11 @@ module _ (spec : SpecTree) (tree : ExprTree) (units : ℕ) where
       ∙ answers-steps (before ++ e ∷ []) entries h.1
       ∙ ap main_answers (append_assoc before (e ∷ []) entries)
 
-  taken-legal : (before : List Entry) (e : Entry) (q : Question) → IsLegal spec tree units before e → main_outcome spec tree units (main_answers before) ≡ needs q → IsTaken spec before q (answer_of e) (before ++ e ∷ [])
-  taken-legal before e q h needed =
+  taken-legal : (before : List Entry) (e : Entry) (q : Question) → IsLegal spec tree units before e → main_outcome spec tree units (main_answers before) ≡ needs (noted q) → IsTaken spec before q (answer_of e) (before ++ e ∷ [])
+  taken-legal before e q h needs_it =
       let legal = legal-for_main spec tree units before e h in
       let back = made-back legal.question legal.answer e legal.made_of in
-      let asked : asks q ≡ asks legal.question = sym (ap standing_of needed) ∙ legal.asked in
+      let asked : asks q ≡ asks legal.question = sym (ap standing_of needs_it) ∙ legal.asked in
       let same : legal.question ≡ q = cc in
       record {
         taken = e;
@@ -96,10 +96,18 @@ module _ (spec : SpecTree) (tree : ExprTree) (units : ℕ) where
         last = refl;
       }
 
+  -- what is answered is a question, and no need as such
+  answered-legal : (before : List Entry) (e : Entry) (q : Query) → IsLegal spec tree units before e → main_outcome spec tree units (main_answers before) ≡ needs q → IsAnswered spec before q (answer_of e) (before ++ e ∷ [])
+  answered-legal before e (noted q) h needs_it = taken-legal before e q h needs_it
+  answered-legal before e (needed need) h needs_it =
+      let legal = legal-for_main spec tree units before e h in
+      let never : over ≡ asks legal.question = sym (ap standing_of needs_it) ∙ legal.asked in
+      absurd (cc)
+
   plays : (before entries : List Entry) → AreLegal spec tree units before entries → Plays (rules spec) (λ bs. main_outcome spec tree units (main_answers before ++ bs)) before (steps_of before entries)
   plays before [] h = tt
   plays before (e ∷ entries) h = (
-    λ q needed. taken-legal before e q h.0 (ap (main_outcome spec tree units) (sym (append-nil (main_answers before))) ∙ needed),
+    λ q needs_it. answered-legal before e q h.0 (ap (main_outcome spec tree units) (sym (append-nil (main_answers before))) ∙ needs_it),
     plays-same (rules spec) (λ bs. main_outcome spec tree units (main_answers (before ++ e ∷ []) ++ bs)) (λ bs. main_outcome spec tree units (main_answers before ++ answer_of e ∷ bs))
         (λ bs. ap (main_outcome spec tree units) (ap (λ front. front ++ bs) (main_answers-behind before [] e (legal-main spec tree units before e h.0)) ∙ append_assoc (main_answers before) (answer_of e ∷ []) bs))
         (before ++ e ∷ []) (steps_of (before ++ e ∷ []) entries) (plays (before ++ e ∷ []) entries h.1),
@@ -112,4 +120,4 @@ module _ (spec : SpecTree) (tree : ExprTree) (units : ℕ) where
   pub run-sound : (entries : List Entry) → IsRun spec tree units entries → IsMainSound spec tree units entries (main_outcome spec tree units (main_answers entries))
   run-sound entries h =
       subst (λ bs. IsMainSound spec tree units entries (main_outcome spec tree units bs)) (run-answers entries h)
-      (sound (rules spec) (plan_of spec) spent (tasks-keep spec) (main_plan spec tree) LeavesAnEnd (Some (suc (length (classes_of spec)))) [] [] (safe-main spec tree) units (steps_of [] entries) (plays [] entries h))
+      (sound (rules spec) (plan_of (of_thread spec)) spent (tasks-keep spec) (main_plan spec tree) LeavesAnEnd (Some (suc (length (classes_of spec)))) [] [] (safe-main spec tree) units (steps_of [] entries) (plays [] entries h))

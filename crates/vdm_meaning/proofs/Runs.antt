@@ -12,11 +12,11 @@ use Rattle.run_journal.specs.declared.thread.Thread.TheVariants.{Main}
 use Rattle.run_journal.specs.Made.{Fits, answer_of, made}
 use Rattle.run_journal.specs.Parts.{is_by, object_part, thread_part}
 use Rattle.run_journal.specs.Threads.{is_thread}
-use Rattle.vdm_meaning.specs.Main.{asks, main_code}
 use Rattle.vdm_legal.specs.AtObject.{IsLegalAtObject}
+use Rattle.vdm_legal.proofs.Journals.{main_answers, made-back}
+use Rattle.vdm_meaning.specs.Main.{asks, main_code}
 use Rattle.vdm_meaning.specs.Entries.{IsLegalForThread, code_of}
 use Rattle.vdm_meaning.specs.Runs.{IsLegal, AreLegal, IsRun}
-use Rattle.vdm_legal.proofs.Journals.{main_answers, made-back}
 
 -- main alone asks
 asked-main : (spec : SpecTree) (tree : ExprTree) (units : ℕ) (thread : Thread) (answers : List Answer) (q : Question) → code_of spec tree units thread answers ≡ asks q → thread ≡ Main

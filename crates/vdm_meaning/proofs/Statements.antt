@@ -1,78 +1,97 @@
 -- Statements keep the rules of journals.
-use Rattle.std.proofs.Common.{ℕ, Bool, false, List, [], ◌∷◌, Option, Some, None, refl}
+use Rattle.std.proofs.Common.{◌≢◌, ◌∷◌, [], Bool, List, None, Option, Some, false, refl, ℕ}
+use Rattle.vdm_kinds.specs.declared.member.VarRef.{VarRef}
 use Rattle.vdm_kinds.specs.declared.place.Place.{Place}
 use Rattle.vdm_kinds.specs.declared.run_fault.RunFault.TheVariants.{TypeFault, Undefined}
-use Rattle.vdm_values.specs.declared.slot.Slot.TheVariants.{Held}
+use Rattle.vdm_values.specs.declared.slot.Slot.TheVariants.{Unset, Held}
+use Rattle.abstract_syntax.specs.Classes.{SpecTree, VariableTree}
 use Rattle.abstract_syntax.specs.Values.{ValueTree}
-use Rattle.abstract_syntax.specs.Statements.{TargetTree, variable, StmtTree, StmtTrees, assign, call, block, returns, no_stmts, one_stmt, stmt_place}
-use Rattle.abstract_syntax.specs.Classes.{VariableTree, ClassTree, SpecTree, variable_named}
-use Rattle.run_journal.specs.declared.deed.Deed.TheVariants as deed
+use Rattle.abstract_syntax.specs.Expressions.{ExprTree}
+use Rattle.abstract_syntax.specs.Statements.{StmtTree, StmtTrees, TargetTree, assign, block, call, no_stmts, one_stmt, returns, stmt_place, variable, variable_of_class}
 use Rattle.run_journal.specs.declared.entry.Entry.{Entry}
 use Rattle.run_journal.specs.declared.question.Question.TheVariants.{Write}
 use Rattle.run_journal.specs.declared.thread.Thread.TheVariants.{Main}
-use Rattle.run_journal.specs.declared.write.Write.{Write as Pair}
 use Rattle.run_journal.specs.Made.{entry}
-use Rattle.vdm_meaning.specs.Statements.{written, write_of, write_found, assigned, called, unless_returned, sequence, return_value, stmt_plan}
-use Rattle.vdm_meaning.specs.Tasks.{Env, outside, inside, Flow, gave, returned, Code}
-use Rattle.vdm_meaning.specs.Types.{fits}
+use Rattle.run_journal.specs.Parts.{object_part}
+use Rattle.run_journal.specs.declared.deed.Deed.TheVariants as deed
+use Rattle.run_journal.specs.declared.write.Write.{Write as Pair}
+use Rattle.plans.specs.Plans.{ask}
+use Rattle.vdm_legal.proofs.Known.{IsKnown}
+use Rattle.vdm_legal.proofs.Sanity.{IsQuiet, quiet-sane, quiet-within, within-self}
+use Rattle.node_meaning.specs.Envs.{Here, Locals}
+use Rattle.node_meaning.specs.Tasks.{Code, Flow, exited, fault, gave, next, noted, returned}
+use Rattle.node_meaning.specs.Names.{variable_definition, variable_in}
+use Rattle.node_meaning.specs.Statements.{written, write_of, write_typed, write_found, assigned, called, unless_ended, sequence, return_value, returned_of, stmt_plan}
+use Rattle.node_meaning.specs.Types.{fits}
+use Rattle.vdm_meaning.proofs.Rules.{GivesKnown, HasObject, IsSafe, MayLeave}
+use Rattle.vdm_meaning.proofs.Parts.{Goes, IsAt, at-among, at-later, may-fail, safe-evaluated, safe-finish, safe-if}
 use Rattle.vdm_meaning.proofs.Asking.{safe-ask}
-use Rattle.vdm_legal.proofs.Births.{born-there}
-use Rattle.vdm_meaning.proofs.Parts.{IsAt, at-later, may-fail, safe-if, safe-expression}
-use Rattle.vdm_meaning.proofs.Rules.{IsSafe}
-use Rattle.vdm_legal.proofs.Sanity.{IsSane, IsQuiet, within-then, quiet-sane, quiet-within}
-use Rattle.vdm_meaning.proofs.Types.{fits-number}
-
--- a statement leaves a sane journal, whatever comes of it
-abbrev LeavesSanity : List Entry → Flow → Type 0
-LeavesSanity entries flow = IsSane entries
 
 write-quiet : (pairs : List Pair) (refused : Bool) → IsQuiet (deed.Write pairs refused)
 write-quiet pairs refused = λ name. (refl, refl, refl)
 
-module _ (spec : SpecTree) (first : List Entry) where
-  safe-write_found : (before : List Entry) (me : ℕ) (class : ClassTree) (found : Option VariableTree) (place : Place) (v : ValueTree) → IsAt spec first before (inside me class) → IsSafe spec LeavesSanity (Some 3) first before (write_found me class found place v)
-  safe-write_found before me class None place v is_at = may-fail spec before (inside me class) Undefined place is_at.here
-  safe-write_found before me class (Some var) place v is_at = safe-if spec LeavesSanity (Some 3) first before (fits var.declared v) _ _ (λ fit.
-      let pairs = write_of class var v ∷ [] in
-      let number = fits-number var.declared v fit in
-      let sane = quiet-sane before me (deed.Write pairs false) (write-quiet pairs false) is_at.here.sane (number, tt) refl in
-      let within = quiet-within before me (deed.Write pairs false) (write-quiet pairs false) in
-      safe-ask spec LeavesSanity first before 2 (written place) (Write me pairs) (entry Main me (deed.Write pairs false)) (λ a taken is. is)
-      (record { ready = born-there spec before me class is_at.here.stands; sane = is_at.here.sane })
-      (within-then first before _ is_at.within within, sane))
-      (may-fail spec before (inside me class) TypeFault place is_at.here)
+module _ (spec : SpecTree) (first : List Entry) (here : Here) where
+  -- ---- assignments
 
-  safe-assigned : (before : List Entry) (env : Env) (target : TargetTree) (place : Place) (v : ValueTree) → IsAt spec first before env → IsSafe spec LeavesSanity (Some 3) first before (assigned env target place v)
-  safe-assigned before outside target place v is_at = may-fail spec before outside Undefined place is_at.here
-  safe-assigned before (inside me class) (variable name [] name_place) place v is_at = safe-write_found before me class (variable_named class name) place v is_at
-  safe-assigned before (inside me class) _ place v is_at = may-fail spec before (inside me class) Undefined place is_at.here
+  safe-write : (now : List Entry) (me : ℕ) (var : VarRef) (place : Place) (v : ValueTree) (locals : Locals) → IsAt first now here locals → object_part me now ≢ [] → IsKnown now v → IsSafe spec first now (ask (noted (Write me (write_of var v ∷ []))) (written place locals))
+  safe-write now me var place v locals is_at there known =
+      let pairs = write_of var v ∷ [] in
+      let sane = quiet-sane now me (deed.Write pairs false) (write-quiet pairs false) is_at.may.sane (known, tt) refl in
+      let at_then = at-later is_at (quiet-within now me (deed.Write pairs false) (write-quiet pairs false)) sane in
+      safe-ask spec MayLeave first now 2 (written place locals) (Write me pairs) (entry Main me (deed.Write pairs false)) (λ a taken is. is)
+      (record { ready = there; sane = is_at.may.sane })
+      (safe-finish spec (Some 2) (next locals) at_then at_then.may.known)
 
-  safe-called : (n : Option ℕ) (before : List Entry) (env : Env) (flow : Flow) → IsAt spec first before env → IsSafe spec LeavesSanity n first before (called flow)
-  safe-called n before env (gave (Held v)) is_at = (is_at.within, is_at.here.sane)
-  safe-called n before env _ is_at = (is_at.within, is_at.here.sane)
+  safe-write_typed : (now : List Entry) (me : ℕ) (var : VarRef) (found : Option VariableTree) (place : Place) (v : ValueTree) (locals : Locals) → IsAt first now here locals → object_part me now ≢ [] → IsKnown now v → IsSafe spec first now (write_typed me var found place v locals)
+  safe-write_typed now me var None place v locals is_at there known = may-fail spec Undefined place is_at.may
+  safe-write_typed now me var (Some definition) place v locals is_at there known =
+      safe-if spec first now (fits definition.declared v) (ask (noted (Write me (write_of var v ∷ []))) (written place locals)) (fault TypeFault place)
+      (safe-write now me var place v locals is_at there known) (may-fail spec TypeFault place is_at.may)
 
-  safe-unless : (n : Option ℕ) (before : List Entry) (env : Env) (rest : Code) (flow : Flow) → IsAt spec first before env → IsSafe spec LeavesSanity n first before rest → IsSafe spec LeavesSanity n first before (unless_returned rest flow)
-  safe-unless n before env rest (returned slot) is_at h = (is_at.within, is_at.here.sane)
-  safe-unless n before env rest _ is_at h = h
+  safe-write_found : (now : List Entry) (me : Option ℕ) (found : Option VarRef) (place : Place) (v : ValueTree) (locals : Locals) → IsAt first now here locals → HasObject now me → IsKnown now v → IsSafe spec first now (write_found spec me found place v locals)
+  safe-write_found now (Some me) (Some var) place v locals is_at there known = safe-write_typed now me var (variable_definition spec var) place v locals is_at there known
+  safe-write_found now _ _ place v locals is_at there known = may-fail spec Undefined place is_at.may
 
-  safe-sequence : (n : Option ℕ) (before : List Entry) (env : Env) (statements : StmtTrees) → IsAt spec first before env → IsSafe spec LeavesSanity n first before (sequence env statements)
-  safe-sequence n before env no_stmts is_at = (is_at.within, is_at.here.sane)
-  safe-sequence n before env (one_stmt statement statements) is_at = (
-    is_at.here,
-    λ later flow within sane.
-        let at_then = at-later spec first before later env is_at within sane in
-        safe-unless n later env (sequence env statements) flow at_then (safe-sequence n later env statements at_then),
+  safe-assigned : (now : List Entry) (target : TargetTree) (place : Place) (v : ValueTree) (locals : Locals) → IsAt first now here locals → IsKnown now v → IsSafe spec first now (assigned spec here target place v locals)
+  safe-assigned now (variable name [] name_place) place v locals is_at known = safe-write_found now here.me (variable_in spec here.scope name) place v locals is_at is_at.may.me known
+  safe-assigned now (variable name (step ∷ steps) name_place) place v locals is_at known = may-fail spec Undefined place is_at.may
+  safe-assigned now (variable_of_class class name name_place steps class_place) place v locals is_at known = may-fail spec Undefined place is_at.may
+
+  -- ---- calls and blocks
+
+  safe-called : {now : List Entry} {locals : Locals} (flow : Flow) → IsAt first now here locals → GivesKnown now flow → IsSafe spec first now (called flow)
+  safe-called (gave (Held v) after) is_at known = (is_at.within, (is_at.may.sane, known))
+  safe-called (gave Unset after) is_at known = (is_at.within, (is_at.may.sane, known.1))
+  safe-called (next after) is_at known = (is_at.within, (is_at.may.sane, known))
+  safe-called (returned slot after) is_at known = (is_at.within, (is_at.may.sane, known))
+  safe-called (exited v from after) is_at known = (is_at.within, (is_at.may.sane, known))
+
+  safe-unless_ended : (now : List Entry) (locals : Locals) (others : Locals → Code) (flow : Flow) → IsAt first now here locals → GivesKnown now flow → Goes spec first here now others → IsSafe spec first now (unless_ended others flow)
+  safe-unless_ended now locals others (gave slot after) is_at known goes = (is_at.within, (is_at.may.sane, known))
+  safe-unless_ended now locals others (next after) is_at known goes = goes now after (within-self now) (at-among is_at after known)
+  safe-unless_ended now locals others (returned slot after) is_at known goes = (is_at.within, (is_at.may.sane, known))
+  safe-unless_ended now locals others (exited v from after) is_at known goes = (is_at.within, (is_at.may.sane, known))
+
+  safe-sequence : (statements : StmtTrees) (now : List Entry) (locals : Locals) → IsAt first now here locals → IsSafe spec first now (sequence here statements locals)
+  safe-sequence no_stmts now locals is_at = safe-finish spec (Some 3) (next locals) is_at is_at.may.known
+  safe-sequence (one_stmt statement statements) now locals is_at = (
+    is_at.may,
+    λ later flow w leaves.
+        safe-unless_ended later locals (sequence here statements) flow (at-later is_at w leaves.0) leaves.1
+        (λ end others x at_end. safe-sequence statements end others at_end),
   )
 
-  pub safe-statement : (env : Env) (statement : StmtTree) (before : List Entry) → IsAt spec first before env → IsSafe spec LeavesSanity (Some 3) first before (stmt_plan env statement)
-  safe-statement env (assign target e place) before is_at =
-      safe-expression spec LeavesSanity (Some 3) first before env e place (assigned env target place) is_at (λ later v at_then known. safe-assigned later env target place v at_then)
-  safe-statement env (call application place) before is_at = (
-    is_at.here,
-    λ later flow within leaves. safe-called (Some 3) later env flow (at-later spec first before later env is_at within leaves.0),
-  )
-  safe-statement env (block locals statements place) before is_at = safe-sequence (Some 3) before env statements is_at
-  safe-statement env (returns None place) before is_at = (is_at.within, is_at.here.sane)
-  safe-statement env (returns (Some e) place) before is_at =
-      safe-expression spec LeavesSanity (Some 3) first before env e place return_value is_at (λ later v at_then known. (at_then.within, at_then.here.sane))
-  safe-statement env statement before is_at = may-fail spec before env Undefined (stmt_place statement) is_at.here
+  safe-returned_of : (now : List Entry) (tree : Option ExprTree) (place : Place) (locals : Locals) → IsAt first now here locals → IsSafe spec first now (returned_of here tree place locals)
+  safe-returned_of now None place locals is_at = safe-finish spec (Some 3) (returned Unset locals) is_at (tt, is_at.may.known)
+  safe-returned_of now (Some tree) place locals is_at =
+      safe-evaluated spec first now here locals tree place return_value is_at (λ later v after w at_later known.
+      safe-finish spec (Some 3) (returned (Held v) after) at_later (known, at_later.may.known))
+
+  pub safe-statement : (now : List Entry) (locals : Locals) (statement : StmtTree) → IsAt first now here locals → IsSafe spec first now (stmt_plan spec here locals statement)
+  safe-statement now locals (assign target tree place) is_at =
+      safe-evaluated spec first now here locals tree place (assigned spec here target place) is_at (λ later v after w at_later known.
+      safe-assigned later target place v after at_later known)
+  safe-statement now locals (call tree place) is_at = (is_at.may, λ later flow w leaves. safe-called flow (at-later is_at w leaves.0) leaves.1)
+  safe-statement now locals (block dcls statements place) is_at = safe-sequence statements now locals is_at
+  safe-statement now locals (returns tree place) is_at = safe-returned_of now tree place locals is_at
+  safe-statement now locals statement is_at = may-fail spec Undefined (stmt_place statement) is_at.may

@@ -1,12 +1,3 @@
-pub mod Faults
-pub mod Operators
-pub mod Tasks
-pub mod Types
-pub mod Calls
-pub mod Objects
-pub mod Expressions
-pub mod Statements
-pub mod TaskPlans
 pub mod Main
 pub mod Entries
 pub mod Runs

@@ -39,8 +39,8 @@ pub fn nothing_stands_behind_an_end()
         → finish_of before ≡ None }
 {}
 
-/// What main asks behind a run can be answered: each activation has its request, each finish its activation, and what is read is
-/// a variable of the object.
+/// What main asks behind a run can be answered: each activation has its request, each finish its activation, and what is read or
+/// written stands on an object that is there.
 pub fn what_is_asked_is_ready()
     ensures { (spec : SpecTree) (tree : ExprTree) (units : ℕ) (entries : List Entry) (question : Question)
         → IsRun spec tree units entries

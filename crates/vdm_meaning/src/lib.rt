@@ -1,4 +1,4 @@
-//! What the language means: what each node does, the code of main, and which lists of entries are runs. Definitions and laws alone.
+//! What the language means: the code of main, and which lists of entries are runs. Definitions and laws alone.
 #![tactic(auto)]
 
 mod laws;

@@ -1,4 +1,4 @@
-use Rattle.built_laws.proofs.Bodies.{operation_meant}
+use Rattle.built_laws.proofs.Stmts.{operation_meant}
 use Rattle.built_laws.proofs.laws.built_bodies_have_meaning.Goals as goal
 
 pub returns : goal.returns

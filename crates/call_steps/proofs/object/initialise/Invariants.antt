@@ -1,12 +1,13 @@
-use Rattle.std.proofs.Common.{◌≡◌, length, ◌-◌}
-use Rattle.abstract_syntax.specs.Classes.{class_variables}
-use Rattle.vdm_meaning.specs.Objects.{initialise}
-use Rattle.class_table.specs.Tables.{class_of, variables_from}
+use Rattle.std.proofs.Common.{◌≡◌, length}
+use Rattle.spec_table.specs.Tables.{table_spec}
+use Rattle.step_data.specs.Actions.{initialisers}
 use Rattle.call_steps.proofs.object.initialise.Given as goal
 
 -- the initialisers of the rest do what those of the whole do
-abbrev pub invariant-loop-variable : goal.invariant-loop-variable
-invariant-loop-variable l = initialise (class_of l.members) l.place (variables_from l.members l.next) l.slots.items ≡ initialise (class_of l.members) l.place (variables_from l.members l.fn.next) l.fn.slots.items
+abbrev pub invariant-loop-var : goal.invariant-loop-var
+invariant-loop-var l = record {
+  same : initialisers (table_spec l.table) l.making ≡ initialisers (table_spec l.table) l.fn.making;
+}
 
-abbrev pub decreases-loop-variable : goal.decreases-loop-variable
-decreases-loop-variable l = length (class_variables (class_of l.members)) - l.next
+abbrev pub decreases-loop-var : goal.decreases-loop-var
+decreases-loop-var l = length l.making.left.now

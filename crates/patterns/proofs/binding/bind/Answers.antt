@@ -1,25 +1,24 @@
-use Rattle.std.proofs.Common.{None, refl}
-use Rattle.std.proofs.lemmas.Result.{err_from_is_err_and}
-use Rattle.patterns.proofs.Steps.{begins_nested}
-use Rattle.patterns.proofs.Whole.{bind_found, bind_none, bind_past, handed_on}
+use Rattle.std.proofs.Common.{◌≡◌, Option, IfOk, IfSome, IsSomeAnd, Err, subst}
+use Rattle.vdm_kinds.specs.declared.halt.Halt.TheVariants.{Of}
+use Rattle.vdm_kinds.specs.declared.run_fault.RunFault.{RunFault}
+use Rattle.vdm_kinds.specs.declared.run_fault.RunFault.TheVariants.{SizeLimit}
+use Rattle.expr_tree.specs.View.{pattern_view}
+use Rattle.pattern_meaning.specs.Bindings.{Binding, IsWithinLimits, IsPastLimits}
+use Rattle.pattern_meaning.specs.RecordTypes.{stands_for}
+use Rattle.patterns.proofs.Several.{of_one}
 use Rattle.patterns.proofs.binding.bind.Goals as goal
-
-pub run-requires : goal.run-requires
-run-requires g c = begins_nested (λ t. None) _ _ _ _ c.in_ok-search.ensures
-
-pub returns-then-branch-clause-bound : goal.returns-then-branch-clause-bound
-returns-then-branch-clause-bound g c = (
-  bind_found _ _ _ _ _ _ _ _ _ _ c.in_ok-search.ensures c.as_slice.ensures c.in_ok-run.ensures c.if-branch.true c.bound.ensures
-      c.in_ok-copies.ensures.made.0,
-  c.in_ok-copies.ensures.made.1,
-)
 
 pub returns-clause-bound : goal.returns-clause-bound
 returns-clause-bound g c =
-    (bind_none _ _ _ _ _ _ _ _ c.in_ok-search.ensures c.as_slice.ensures c.in_ok-run.ensures c.if-branch.false, tt)
+    subst (λ (answer : Option Binding). IfOk c.bind_all.result (λ found. (found ≡ answer) × IfSome found IsWithinLimits))
+    (of_one (stands_for (g.N.TypeNames.found c.args.names.now) (g.N.TypeNames.rank c.args.names.now) c.args.scope)
+    (pattern_view c.args.p.now) c.args.v.now c.args.given.now)
+    c.bind_all.ensures.bound
 
-pub returns-in_err-copies-clause-refused : goal.returns-in_err-copies-clause-refused
-returns-in_err-copies-clause-refused g c = λ fault e.
-    let p = err_from_is_err_and c.from_residual-in_err-copies.result c.from_residual-in_err-copies.ensures.1 in
-    let h = c.in_err-copies.ensures.refused fault (handed_on _ _ _ fault e p.1 p.2 _ refl) in
-    (h.0, bind_past _ _ _ _ _ _ _ _ _ c.in_ok-search.ensures c.as_slice.ensures c.in_ok-run.ensures c.if-branch.true c.bound.ensures h.1)
+pub returns-clause-refused : goal.returns-clause-refused
+returns-clause-refused g c =
+    subst
+    (λ (answer : Option Binding). (fault : RunFault) → c.bind_all.result ≡ Err (Of fault) → (fault ≡ SizeLimit) × IsSomeAnd answer IsPastLimits)
+    (of_one (stands_for (g.N.TypeNames.found c.args.names.now) (g.N.TypeNames.rank c.args.names.now) c.args.scope)
+    (pattern_view c.args.p.now) c.args.v.now c.args.given.now)
+    c.bind_all.ensures.refused

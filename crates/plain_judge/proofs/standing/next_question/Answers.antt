@@ -1,9 +1,6 @@
-use Rattle.std.proofs.Common.{◌≡◌, IfOk, subst}
-use Rattle.plain_judge.specs.Standings.{stands}
-use Rattle.vdm_meaning.specs.Main.{main_code}
-use Rattle.expr_tree.specs.View.{view_of}
+use Rattle.stmt_exec.specs.Standing.{rest}
+use Rattle.plain_judge.proofs.Staying.{first-stays}
 use Rattle.plain_judge.proofs.standing.next_question.Goals as goal
 
-pub returns : goal.returns
-returns c =
-    subst (λ spec. IfOk c.main_after.result (λ s. stands s ≡ main_code spec (view_of c.args.tree.now) c.args.units c.args.answers)) c.in_ok-table.ensures c.main_after.ensures
+pub standing_after-requires : goal.standing_after-requires
+standing_after-requires c = first-stays _ _ _ (rest c.in_ok-machine.machine) c.in_ok-machine.ensures

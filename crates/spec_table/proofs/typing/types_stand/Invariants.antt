@@ -1,7 +1,7 @@
 use Rattle.std.proofs.Common.{◌≡◌, map, drop}
 use Rattle.std.specs.List.{list_all}
 use Rattle.vdm_tree.specs.ClassView.{class_view}
-use Rattle.spec_table.specs.TypeRanks.{has_its_types}
+use Rattle.member_meaning.specs.TypeRanks.{has_its_types}
 use Rattle.spec_table.proofs.typing.types_stand.Given as goal
 
 abbrev pub invariant-loop-class : goal.invariant-loop-class

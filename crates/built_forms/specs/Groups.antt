@@ -1,0 +1,133 @@
+-- The first form that is not built of an expression, by groups of kinds: the program has a table for each.
+use Rattle.std.specs.Prelude.{Bool, false, Option, Some, None}
+use Rattle.vdm_kinds.specs.declared.place.Place.{Place}
+use Rattle.abstract_syntax.specs.Expressions.{
+  ExprTree,
+  qualified,
+  old_value,
+  self_object,
+  current_time,
+  result_value,
+  bracketed,
+  prefixed,
+  joined,
+  set_enumeration,
+  set_range,
+  set_comprehension,
+  map_enumeration,
+  map_comprehension,
+  sequence_enumeration,
+  sequence_comprehension,
+  make_tuple,
+  make_token,
+  make_record,
+  modify_record,
+  is_of_type,
+  is_of_named,
+  is_of_basic,
+  is_of_class,
+  is_of_base_class,
+  same_class,
+  same_base_class,
+  create,
+  history,
+  apply,
+  subsequence,
+  select,
+  select_of_class,
+  select_part,
+  let_in,
+  let_be,
+  def_in,
+  if_else,
+  cases_of,
+  for_all,
+  exists_some,
+  exists_one,
+  iota_of,
+}
+use Rattle.text_phases.specs.Built.{
+  or_behind,
+  unless,
+  has_none,
+  in_arguments,
+  first_unbuilt,
+  unbuilt_in_exprs,
+  unbuilt_in_maybe,
+  unbuilt_in_maplets,
+  unbuilt_in_defined,
+  unbuilt_in_branches,
+  unbuilt_in_cases,
+  unbuilt_in_bind,
+  unbuilt_in_binds,
+  unbuilt_in_pattern,
+}
+
+-- of operators and of what stands behind its operand; of all else nothing
+abbrev pub in_operands : (called : Bool) → ExprTree → Option Place
+in_operands called (bracketed inner place) = first_unbuilt false inner
+in_operands called (prefixed sign operand place) = first_unbuilt false operand
+in_operands called (joined left sign right place) = or_behind (first_unbuilt false left) (first_unbuilt false right)
+in_operands called (set_range first last place) = or_behind (first_unbuilt false first) (first_unbuilt false last)
+in_operands called (make_token inner place) = first_unbuilt false inner
+in_operands called (apply head arguments place) = or_behind (first_unbuilt (has_none arguments) head) (unbuilt_in_exprs arguments)
+in_operands called (subsequence target first last place) =
+    or_behind (first_unbuilt false target) (or_behind (first_unbuilt false first) (first_unbuilt false last))
+in_operands called (select target name name_place place) = or_behind (first_unbuilt false target) (unless called place)
+in_operands called (select_of_class target class class_place name name_place place) = or_behind (first_unbuilt false target) (Some place)
+in_operands called (select_part target number place) = first_unbuilt false target
+in_operands called _ = None
+
+-- of what has binds; of all else nothing
+abbrev pub in_bound : ExprTree → Option Place
+in_bound (set_comprehension element binds condition place) =
+    or_behind (first_unbuilt false element) (or_behind (unbuilt_in_binds binds) (unbuilt_in_maybe condition))
+in_bound (map_comprehension key value binds condition place) =
+    or_behind (first_unbuilt false key)
+    (or_behind (first_unbuilt false value) (or_behind (unbuilt_in_binds binds) (unbuilt_in_maybe condition)))
+in_bound (sequence_comprehension item pattern set condition place) =
+    or_behind (first_unbuilt false item)
+    (or_behind (unbuilt_in_pattern pattern) (or_behind (first_unbuilt false set) (unbuilt_in_maybe condition)))
+in_bound (let_be bind condition body place) =
+    or_behind (unbuilt_in_bind bind) (or_behind (unbuilt_in_maybe condition) (first_unbuilt false body))
+in_bound (for_all binds condition place) = or_behind (unbuilt_in_binds binds) (first_unbuilt false condition)
+in_bound (exists_some binds condition place) = or_behind (unbuilt_in_binds binds) (first_unbuilt false condition)
+in_bound (exists_one bind condition place) = or_behind (unbuilt_in_bind bind) (first_unbuilt false condition)
+in_bound (iota_of bind condition place) = or_behind (unbuilt_in_bind bind) (first_unbuilt false condition)
+in_bound _ = None
+
+-- of what has other lists, and of a `def`; of all else nothing
+abbrev pub in_listed : ExprTree → Option Place
+in_listed (set_enumeration elements place) = unbuilt_in_exprs elements
+in_listed (map_enumeration pairs place) = unbuilt_in_maplets pairs
+in_listed (sequence_enumeration items place) = unbuilt_in_exprs items
+in_listed (make_tuple parts place) = unbuilt_in_exprs parts
+in_listed (create class class_place arguments place) = in_arguments arguments
+in_listed (let_in definitions body place) = or_behind (unbuilt_in_defined definitions) (first_unbuilt false body)
+in_listed (def_in pattern value body place) =
+    or_behind (unbuilt_in_pattern pattern) (or_behind (first_unbuilt false value) (first_unbuilt false body))
+in_listed (if_else condition value elseifs otherwise place) =
+    or_behind (first_unbuilt false condition)
+    (or_behind (first_unbuilt false value) (or_behind (unbuilt_in_branches elseifs) (first_unbuilt false otherwise)))
+in_listed (cases_of subject cases others place) =
+    or_behind (first_unbuilt false subject) (or_behind (unbuilt_in_cases cases) (unbuilt_in_maybe others))
+in_listed _ = None
+
+-- the place of what is not built, whatever stands in it; of all else nothing
+abbrev pub left_out_here : ExprTree → Option Place
+left_out_here (qualified class name name_place place) = Some place
+left_out_here (old_value name place) = Some place
+left_out_here (self_object place) = Some place
+left_out_here (current_time place) = Some place
+left_out_here (result_value place) = Some place
+left_out_here (make_record type_name fields place) = Some place
+left_out_here (modify_record target fields place) = Some place
+left_out_here (is_of_type tested declared place) = Some place
+left_out_here (is_of_named type_name tested place) = Some place
+left_out_here (is_of_basic basic tested place) = Some place
+left_out_here (is_of_class class class_place tested place) = Some place
+left_out_here (is_of_base_class class class_place tested place) = Some place
+left_out_here (same_class left right place) = Some place
+left_out_here (same_base_class left right place) = Some place
+left_out_here (history counter names place) = Some place
+left_out_here _ = None

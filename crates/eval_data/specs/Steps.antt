@@ -1,0 +1,146 @@
+-- What frames and steps mean: the plan of each.
+use Rattle.std.specs.Prelude.{ℕ, ◌+◌, List, [], ◌∷◌, map, drop, slice_get, Option, Some, None, Bool}
+use Rattle.class_meaning.specs.Classes.{nowhere}
+use Rattle.vdm_kinds.specs.declared.place.Place.{Place}
+use Rattle.abstract_syntax.specs.Classes.{SpecTree}
+use Rattle.abstract_syntax.specs.Expressions.{ExprTree, undefined, PatternTree, no_exprs, one_expr}
+use Rattle.abstract_syntax.specs.Values.{ValueTree}
+use Rattle.expr_tree.specs.View.{view_of, boxed_view, maybe_view, expr_trees, views_of, pattern_view, pattern_views, pattern_trees, branch_view, branch_trees, case_view, case_trees, defined_view, defined_trees}
+use Rattle.plans.specs.Plans.{finish, become, part}
+use Rattle.node_meaning.specs.Calls.{given}
+use Rattle.node_meaning.specs.Choosing.{by_truth, next_choice, choose, with_elements, sets_of, behind_sets, search_with}
+use Rattle.node_meaning.specs.Envs.{Locals, Here as MeantHere, outside, at}
+use Rattle.node_meaning.specs.Expressions.{called_through, right_truth, truth, branch, branches, within, no_match, defined, patterns_met, cases_met}
+use Rattle.node_meaning.specs.Matching.{on_truth, met, meets}
+use Rattle.node_meaning.specs.Needs.{Setting, asked}
+use Rattle.node_meaning.specs.Strict.{one_operand, two_operands, with_others, make}
+use Rattle.node_meaning.specs.Tasks.{expr_in, Flow as MeantFlow, Code, fault, value, with_value, cut_to}
+use Rattle.eval_data.specs.declared.collecting.Collecting.{Collecting}
+use Rattle.eval_data.specs.declared.collecting.Then.{Then}
+use Rattle.eval_data.specs.declared.collecting.Then.TheVariants.{Make, Meets, Searches, NextChoice}
+use Rattle.eval_data.specs.declared.frame.After.{After as AfterNeed}
+use Rattle.eval_data.specs.declared.frame.After.TheVariants.{Value as ValueOf, Given}
+use Rattle.eval_data.specs.declared.frame.Frame.{Frame}
+use Rattle.eval_data.specs.declared.frame.Frame.TheVariants.{With, After, Cut}
+use Rattle.eval_data.specs.declared.frame.TruthUse.{TruthUse}
+use Rattle.eval_data.specs.declared.frame.TruthUse.TheVariants.{Branch, Left, Right, Choice}
+use Rattle.eval_data.specs.declared.frame.Use.{Use}
+use Rattle.eval_data.specs.declared.frame.Use.TheVariants.{Operand, RightOperand, Operator, Collect, Truth, CallThrough, Defined, Subject, Elements}
+use Rattle.eval_data.specs.declared.matching.Met.{Met}
+use Rattle.eval_data.specs.declared.matching.Met.TheVariants.{Definition, Case}
+use Rattle.eval_data.specs.declared.matching.MetCase.{MetCase}
+use Rattle.eval_data.specs.declared.search.Search.{Search}
+use Rattle.eval_data.specs.declared.search.Sets.{Sets}
+use Rattle.eval_data.specs.declared.step.Step.{Step}
+use Rattle.eval_data.specs.declared.step.Step.TheVariants.{Finish, Fail, Part, Become, Need}
+use Rattle.eval_data.specs.Parts.{wanted_of, here_of, flow_of, need_of, strict_of, parts_of, chooser_of, patterns_at, search_of, first_choice, sources_from}
+
+-- ---- patterns
+
+-- the pattern that meets a value
+abbrev pub met_pattern : Met → PatternTree
+met_pattern (Definition here d) = pattern_view d.pattern.now.value
+met_pattern (Case here c) = pattern_view c.pattern.now
+
+abbrev pub met_here : Met → MeantHere
+met_here (Definition here d) = here_of here
+met_here (Case here c) = here_of here
+
+-- what is done where it matches: further definitions, or the expression of the alternative
+abbrev pub matched : SpecTree → Met → Place → Locals → Code
+matched spec (Definition here d) place = defined spec (here_of here) place d.count (defined_trees (map defined_view d.more.now)) (boxed_view d.body.now)
+matched spec (Case here c) place = within (here_of here) c.count (boxed_view c.body.now)
+
+-- the alternatives behind a pattern's, with the value that none of their patterns has met
+abbrev pub cases_behind : SpecTree → MeantHere → MetCase → Place → ValueTree → Locals → Code
+cases_behind spec here c place v = cases_met spec here place (case_trees (map case_view c.more.now)) (maybe_view c.others.now) c.count v
+
+-- what is done where it does not: the further patterns, or a fault
+abbrev pub missed : SpecTree → Met → Place → ValueTree → Locals → Code
+missed spec (Definition here d) place v = no_match place
+missed spec (Case here c) place v =
+    patterns_met spec (here_of here) place v (pattern_trees (pattern_views c.patterns.now)) c.count (boxed_view c.body.now)
+    (cases_behind spec (here_of here) c place v)
+
+-- behind the values of the expressions in brackets
+abbrev pub met_with : SpecTree → Met → Place → ValueTree → List ValueTree → Locals → Code
+met_with spec m place v =
+    met spec (met_here m).scope place (met_pattern m ∷ []) (v ∷ []) (matched spec m place) (missed spec m place v)
+
+-- ... and before them
+abbrev pub meets_with : SpecTree → Met → Place → ValueTree → Locals → Code
+meets_with spec m place v = meets spec (met_here m) place (met_pattern m) (matched spec m place) (missed spec m place v) v
+
+-- ---- searches
+
+-- the search among the choices that are left behind the first so many
+abbrev pub choose_behind : SpecTree → Search → ℕ → List ValueTree → Locals → Code
+choose_behind spec search n = choose spec (search_of search) (drop n search.choices)
+
+-- the sets behind the one that is being evaluated, and then the search
+abbrev pub sets_behind : SpecTree → Sets → List (List ValueTree) → Locals → Code
+sets_behind spec sets lists locals =
+    sets_of (here_of sets.here) sets.place (sources_from sets.sources.items (sets.at + 1)) lists
+    (behind_sets spec (here_of sets.here) sets.place (patterns_at sets.patterns.items) (chooser_of sets.chooser)) locals
+
+-- a source that is not there has no elements
+abbrev pub source_in : Option (ExprTree × ℕ) → ExprTree × ℕ
+source_in None = (undefined nowhere, 0)
+source_in (Some source) = source
+
+-- the source of the set that is being evaluated; there is one
+abbrev pub source_at : Sets → ExprTree × ℕ
+source_at sets = source_in (slice_get (sources_from sets.sources.items 0) sets.at)
+
+-- ---- what is done with values
+
+abbrev pub then_of : SpecTree → Then → MeantHere → Place → List ValueTree → Locals → Code
+then_of spec (Make what) here place = make (strict_of what) place
+then_of spec (Meets v m) here place = met_with spec m place v
+then_of spec (Searches lists patterns chooser) here place = search_with spec here place (patterns_at patterns.items) (chooser_of chooser) lists.items
+then_of spec (NextChoice search) here place = next_choice (search_of search.value) (choose_behind spec search.value 0)
+
+-- a value behind those that came
+abbrev pub collect : SpecTree → Collecting → ValueTree → Locals → Code
+collect spec c = with_others (here_of c.here) c.place (parts_of c.rest) c.done.items (then_of spec c.then (here_of c.here) c.place)
+
+abbrev pub truth_use : SpecTree → TruthUse → Place → Bool → Locals → Code
+truth_use spec (Branch here tree more otherwise) place =
+    branch (here_of here) (boxed_view tree.now) (branches (here_of here) place (branch_trees (map branch_view more.now)) (boxed_view otherwise.now))
+truth_use spec (Left here sign right) place = right_truth (here_of here) sign (boxed_view right.now) place
+truth_use spec Right place = truth
+truth_use spec (Choice search) place =
+    by_truth (search_of search.value) (first_choice search.value) search.value.done.items (choose_behind spec search.value 1)
+
+abbrev pub use_of : Setting → Use → Place → ValueTree → Locals → Code
+use_of setting (Operand operator) place = with_others outside place no_exprs [] (make (one_operand operator) place)
+use_of setting (RightOperand here right operator) place =
+    with_others (here_of here) place (one_expr (boxed_view right.now) no_exprs) [] (make (two_operands operator) place)
+use_of setting (Operator operator left) place = with_others outside place no_exprs (left ∷ []) (make (two_operands operator) place)
+use_of setting (Collect c) place = collect setting.spec c.value
+use_of setting (Truth truth_for) place = on_truth place (truth_use setting.spec truth_for place)
+use_of setting (CallThrough scope name arguments wanted) place =
+    called_through setting scope name (expr_trees (views_of arguments.now)) place (wanted_of wanted)
+use_of setting (Defined here d) place = meets_with setting.spec (Definition here d) place
+use_of setting (Subject here cases others count) place =
+    cases_met setting.spec (here_of here) place (case_trees (map case_view cases.now)) (maybe_view others.now) count
+use_of setting (Elements sets) place =
+    with_elements (source_at sets.value).0 (source_at sets.value).1 sets.value.lists.items (sets_behind setting.spec sets.value)
+
+-- ---- frames and steps
+
+abbrev pub after_need : AfterNeed → Place → MeantFlow → Code
+after_need ValueOf place = with_value place value
+after_need (Given wanted) place = given (wanted_of wanted) place
+
+abbrev pub frame_then : Setting → Frame → MeantFlow → Code
+frame_then setting (With used place) = with_value place (use_of setting used place)
+frame_then setting (After after place) = after_need after place
+frame_then setting (Cut count) = cut_to count
+
+abbrev pub code_of : Setting → Locals → Step → Code
+code_of setting locals (Finish flow) = finish (flow_of flow locals)
+code_of setting locals (Fail kind place) = fault kind place
+code_of setting locals (Part here tree frame) = part (expr_in (at (here_of here) locals) (view_of tree.now)) (frame_then setting frame)
+code_of setting locals (Become here tree) = become (expr_in (at (here_of here) locals) (view_of tree.now))
+code_of setting locals (Need need place after) = asked setting (need_of need) place locals (after_need after place)

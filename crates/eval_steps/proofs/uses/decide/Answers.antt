@@ -1,0 +1,9 @@
+use Rattle.std.proofs.Common.{refl, ◌∙◌}
+use Rattle.eval_steps.proofs.Results.{if_ok}
+use Rattle.eval_steps.specs.Settings.{set}
+use Rattle.eval_steps.proofs.uses.decide.Goals as goal
+
+pub returns-in-Chosen : goal.returns-in-Chosen
+returns-in-Chosen c =
+    if_ok c.choice_decided.result c.choice_decided.ensures (λ s is asker.
+    is (set c.args.table.now asker) refl ∙ c.in-Chosen.ensures (set c.args.table.now asker) c.args.locals.now.items)

@@ -1,0 +1,15 @@
+//! What each node of an expression does, and what is done with what comes of its parts.
+#![tactic(auto)]
+
+mod called;
+mod chosen;
+mod dispatch;
+mod named;
+mod parts;
+mod plain;
+mod searched;
+mod then;
+mod uses;
+
+pub use dispatch::{bare_call, expression};
+pub use then::then_of;

@@ -1,0 +1,130 @@
+-- What turns say.
+use Rattle.std.proofs.Common.{◌≡◌, ◌≤◌, ◌<◌, ℕ, ◌+◌, ◌*◌, List, [], ◌∷◌, length, Result, Ok, Err, IfOk, refl, ap, sym, ◌∙◌, arith}
+use Rattle.vdm_kinds.specs.declared.halt.Halt.{Halt}
+use Rattle.vdm_kinds.specs.declared.halt.OutOfMemory.{OutOfMemory}
+use Rattle.vdm_kinds.specs.declared.place.Place.{Place}
+use Rattle.vdm_kinds.specs.declared.run_fault.RunFault.{RunFault}
+use Rattle.vdm_values.specs.declared.slot.Slot.{Slot}
+use Rattle.vdm_values.specs.declared.slot.Slot.TheVariants.{Unset, Held}
+use Rattle.abstract_syntax.specs.Classes.{SpecTree}
+use Rattle.abstract_syntax.specs.Expressions.{ExprTree, expr_place}
+use Rattle.abstract_syntax.specs.Values.{ValueTree}
+use Rattle.run_journal.specs.declared.answer.Answer.{Answer}
+use Rattle.run_journal.specs.declared.answer.Answer.TheVariants.{Slot as Holds}
+use Rattle.plans.specs.Plans.{finish, fail, ask, part, become}
+use Rattle.node_meaning.specs.Envs.{Locals, Here, at}
+use Rattle.node_meaning.specs.Needs.{Setting, slot_then}
+use Rattle.node_meaning.specs.Tasks.{expr_in, gave, needed, Code}
+use Rattle.spec_table.specs.Tables.{table_spec}
+use Rattle.eval_data.specs.declared.flow.Flow.{Flow}
+use Rattle.eval_data.specs.declared.flow.Flow.TheVariants.{Gave}
+use Rattle.eval_data.specs.declared.frame.After.{After}
+use Rattle.eval_data.specs.declared.frame.After.TheVariants.{Value as ValueOf, Given}
+use Rattle.eval_data.specs.declared.frame.Frame.{Frame}
+use Rattle.eval_data.specs.declared.need.Need.{Need}
+use Rattle.eval_data.specs.declared.step.Step.{Step}
+use Rattle.eval_data.specs.declared.step.Step.TheVariants.{Finish, Fail, Part, Become, Need as NeedStep}
+use Rattle.eval_data.specs.declared.wanted.Wanted.TheVariants.{Value as ValueWanted, Nothing}
+use Rattle.eval_data.specs.Parts.{need_of, flow_of}
+use Rattle.eval_data.specs.Steps.{after_need, code_of}
+use Rattle.expr_eval.specs.declared.env.Env.{Env}
+use Rattle.expr_eval.specs.declared.eval.Eval.{Eval}
+use Rattle.expr_eval.specs.declared.eval.Next.{Next}
+use Rattle.expr_eval.specs.declared.eval.Next.TheVariants.{Step as Does, Waits}
+use Rattle.expr_eval.specs.declared.eval.Reached.{Reached}
+use Rattle.expr_eval.specs.declared.eval.Reached.TheVariants.{Needs as ReachedNeed}
+use Rattle.expr_eval.specs.declared.turn.Turn.{Turn}
+use Rattle.expr_eval.specs.declared.turn.Turn.TheVariants.{Needs, Value, Fault}
+use Rattle.expr_eval.specs.Evaluations.{of_evaluator, Evaluated, comes_to, alone, stands, evaluation, here_in, locals_in, pure_fault, PureResult}
+use Rattle.expr_eval.specs.Turns.{stands_with, rest_at, rest, rests, Asks, Turned, pure_turn}
+use Rattle.expr_eval.specs.Weights.{weight, next_weight, rank}
+use Rattle.expr_eval.proofs.Resting.{asking-needs}
+
+-- ---- the beginning
+
+pub begins : (spec : SpecTree) (env : Env) (depth : ℕ) (tree : ExprTree) (here : Here) (locals : Locals) (place : Place) (frames : List Frame) (answers : List Answer) (units : ℕ)
+    → frames ≡ [] → here ≡ here_in env depth → locals ≡ locals_in env → place ≡ expr_place tree
+    → stands spec place frames (become (expr_in (at here locals) tree)) answers units ≡ evaluation spec env depth tree answers units
+begins spec env depth tree here locals place frames answers units f h l p = rw (f, h, l, p) refl
+
+-- ---- the step that is next
+
+pub does : (e : Eval) (step : Step) (answers : List Answer) (units : ℕ) → e.next ≡ Does step → rest e answers units ≡ stands_with e step answers units
+does e step answers units is = ap (λ n. rest_at e n answers units) is
+
+-- ---- turns
+
+-- a need that is open
+pub asks : (old new : Eval) (reached : Reached) (need : Need) (place : Place) (after : After) (units : ℕ)
+    → reached ≡ ReachedNeed need place after → new ≡ record old { next = Waits after place }
+    → Asks (need_of need) (λ answers. rests old reached answers units) new units
+asks old new reached need place after units is e = rw (is, e) (record {
+  needs_it = asking-needs (table_spec old.table.now) old.place old.frames.items (needed (need_of need)) (slot_then (after_need after place) old.locals.items) units;
+  goes_on = λ slot answers. refl;
+  waits = tt;
+})
+
+-- a turn says the same of what always comes to the same
+pub turned_as : (turn : Turn) (stood before : List Answer → Evaluated) (e : Eval) (units : ℕ)
+    → ((answers : List Answer) → before answers ≡ stood answers) → Turned turn stood e units → Turned turn before e units
+turned_as (Needs need) stood before e units same t = record {
+  needs_it = same [] ∙ t.needs_it;
+  goes_on = λ slot answers. same (Holds slot ∷ answers) ∙ t.goes_on slot answers;
+  waits = t.waits;
+}
+turned_as (Value v) stood before e units same t = λ answers. same answers ∙ t answers
+turned_as (Fault kind place) stood before e units same t = λ answers. same answers ∙ t answers
+
+pub advanced : (r : Result Turn OutOfMemory) (stood before : List Answer → Evaluated) (e : Eval) (units : ℕ)
+    → ((answers : List Answer) → before answers ≡ stood answers)
+    → IfOk r (λ turn. Turned turn stood e units) → IfOk r (λ turn. Turned turn before e units)
+advanced (Ok turn) stood before e units same t = turned_as turn stood before e units same t
+advanced (Err x) stood before e units same t = tt
+
+-- ---- a slot is given
+
+-- code that goes on with no need
+abbrev IsShort : Code → Type 0
+IsShort (finish flow) = Unit {0}
+IsShort (fail f) = Unit {0}
+IsShort (ask query further) = ⊥
+IsShort (part task further) = Unit {0}
+IsShort (become task) = Unit {0}
+
+short-need : (after : After) (place : Place) (slot : Slot) (locals : Locals) → IsShort (after_need after place (gave slot locals))
+short-need ValueOf place (Held v) locals = tt
+short-need ValueOf place Unset locals = tt
+short-need (Given ValueWanted) place (Held v) locals = tt
+short-need (Given ValueWanted) place Unset locals = tt
+short-need (Given Nothing) place slot locals = tt
+
+short-low : (spec : SpecTree) (locals : Locals) (s : Step) → IsShort (code_of (of_evaluator spec) locals s) → weight s ≤ 2
+short-low spec locals (Finish flow) h = omega arith
+short-low spec locals (Fail kind place) h = omega arith
+short-low spec locals (Part here tree frame) h = omega arith
+short-low spec locals (Become here tree) h = omega arith
+short-low spec locals (NeedStep need place after) h = absurd h
+
+-- what is done with a slot is no need
+answered-low : (spec : SpecTree) (after : After) (place : Place) (slot : Slot) (s : Step)
+    → ((setting : Setting) (locals : Locals) → code_of setting locals s ≡ after_need after place (flow_of (Gave slot) locals)) → weight s ≤ 2
+answered-low spec after place slot s h = short-low spec [] s (rw (h (of_evaluator spec) []) (short-need after place slot []))
+
+pub given-low : (old new : Eval) (spec : SpecTree) (after : After) (place : Place) (slot : Slot) (s : Step) (units : ℕ)
+    → old.next ≡ Waits after place → new ≡ record old { next = Does s }
+    → ((setting : Setting) (locals : Locals) → code_of setting locals s ≡ after_need after place (flow_of (Gave slot) locals))
+    → rank new units < rank old units
+given-low old new spec after place slot s units waits e h =
+    let n : rank new units ≡ rank (record old { next = Does s }) units = ap (λ (m : Eval). rank m units) e in
+    omega (arith, answered-low spec after place slot s h, ap next_weight waits, n)
+
+-- ---- an expression that needs nothing
+
+pure_turned : (turn : Turn) (stood : List Answer → Evaluated) (e : Eval) (units : ℕ) → Turned turn stood e units → PureResult (stood []) units (pure_turn turn)
+pure_turned (Needs need) stood e units t = ap pure_fault t.needs_it
+pure_turned (Value v) stood e units t = (e.locals.items, t [])
+pure_turned (Fault kind place) stood e units t = ap pure_fault (t [])
+
+pub pure_result : (turn : Turn) (stood : List Answer → Evaluated) (outcome : Evaluated) (e : Eval) (units : ℕ) (r : Result ValueTree (Halt RunFault))
+    → Turned turn stood e units → stood [] ≡ outcome → r ≡ pure_turn turn → PureResult outcome units r
+pure_result turn stood outcome e units r t same is = rw (is, ← same) (pure_turned turn stood e units t)

@@ -1,5 +1,0 @@
-//! What names and operators do.
-#![tactic(auto)]
-
-pub mod expression;
-mod operators;

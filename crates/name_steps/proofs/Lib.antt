@@ -1,0 +1,4 @@
+pub mod Arguments
+pub mod LookUps
+pub mod Newest
+pub mod Plans

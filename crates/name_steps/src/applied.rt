@@ -1,0 +1,36 @@
+// What is applied.
+
+ghost use Rattle.std.specs.Prelude.{◌≡◌};
+ghost use Rattle.expr_tree.specs.View.{boxed_view, view_of};
+ghost use Rattle.name_steps.specs.Applied.{applied_tree, applied_view};
+
+use expr_tree::Expr;
+use vdm_kinds::Name;
+
+/// What is applied.
+#[derive(Clone, Copy)]
+pub(crate) enum Applied<'t> {
+    /// A name.
+    Name(Name),
+    /// The member of this name of the object that an expression gives.
+    Member(&'t Box<Expr>, Name),
+    /// The value of any other expression.
+    Value,
+}
+
+/// What the head of an application says is applied.
+pub(crate) fn applied_of(head: &Box<Expr>) -> Applied<'_>
+    ensures { applied_view result ≡ applied_tree (boxed_view head.now) }
+{
+    applied_in(head)
+}
+
+fn applied_in(head: &Expr) -> Applied<'_>
+    ensures { applied_view result ≡ applied_tree (view_of head.now) }
+{
+    match head {
+        Expr::Name(name, _) => Applied::Name(*name),
+        Expr::Select(target, name, _, _) => Applied::Member(target, *name),
+        _ => Applied::Value,
+    }
+}

@@ -1,0 +1,81 @@
+-- Where a node stands: whose names it sees.
+use Rattle.std.specs.Prelude.{ℕ, List, map, reverse, Option, Some, None, option_map}
+use Rattle.std.specs.List.{find}
+use Rattle.vdm_kinds.specs.NameList.{io}
+use Rattle.vdm_kinds.specs.declared.member.VarRef.{VarRef}
+use Rattle.vdm_kinds.specs.declared.name.Name.{Name}
+use Rattle.vdm_values.specs.declared.slot.Slot.{Slot}
+use Rattle.vdm_values.specs.declared.slot.Slot.TheVariants.{Held as Holds}
+use Rattle.abstract_syntax.specs.Classes.{is_same_name}
+use Rattle.class_meaning.specs.Laws.{is_same_variable}
+use Rattle.pattern_meaning.specs.Bindings.{Binding}
+
+-- ---- locals
+
+-- local names with their slots, the newest last
+abbrev pub Locals : Type 0
+Locals = List (Name × Slot)
+
+-- the slot of the newest local of the name
+abbrev pub local_named : Locals → Name → Option Slot
+local_named locals name = option_map (λ (l : Name × Slot). l.1) (find (λ (l : Name × Slot). is_same_name name l.0) (reverse locals))
+
+-- what a binding binds, as locals
+abbrev pub bound_locals : Binding → Locals
+bound_locals = map (λ p. (p.0, Holds p.1))
+
+-- ---- what a predicate holds
+
+-- of an operation name: how often it was asked for, began and ended
+pub record Counted : Type 0 where
+  pub name : Name
+  pub requested : ℕ
+  pub activated : ℕ
+  pub finished : ℕ
+
+-- variables with their slots, and the counters
+pub record Held : Type 0 where
+  pub variables : List (VarRef × Slot)
+  pub counters : List Counted
+
+abbrev pub slot_held : Held → VarRef → Option Slot
+slot_held held var = option_map (λ (v : VarRef × Slot). v.1) (find (λ (v : VarRef × Slot). is_same_variable var v.0) held.variables)
+
+-- ---- environments
+
+-- what stays the same from one node of a body to the next
+pub record Here : Type 0 where
+  -- the class in which the node stands; the expression of a run stands in none
+  pub scope : Option Name
+  -- the class of the object
+  pub own : Option Name
+  -- the object: none in the expression of a run and in initialisers
+  pub me : Option ℕ
+  -- what is held, in a predicate or an instance invariant
+  pub held : Option Held
+  -- how many invariants of types are being tested round the node
+  pub depth : ℕ
+
+pub record Env : Type 0 where
+  pub here : Here
+  pub locals : Locals
+
+abbrev pub at : Here → Locals → Env
+at here locals = record { here = here; locals = locals }
+
+-- the expression of a run: of no class and no object
+abbrev pub outside : Here
+outside = record { scope = None; own = None; me = None; held = None; depth = 0 }
+
+-- the initialisers of a class, which name nothing of an object
+abbrev pub initialising : Name → Here
+initialising class = record { scope = Some class; own = None; me = None; held = None; depth = 0 }
+
+-- the body of an operation of a class, on an object and its class
+abbrev pub inside : ℕ → Name → Name → Here
+inside me own class = record { scope = Some class; own = Some own; me = Some me; held = None; depth = 0 }
+
+-- the class by which the names of types are found: that of `IO` where the node stands in none
+abbrev pub type_scope : Option Name → Name
+type_scope None = io
+type_scope (Some class) = class

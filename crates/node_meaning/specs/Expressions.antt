@@ -1,0 +1,285 @@
+-- What each node of an expression does, one line a kind.
+use Rattle.std.specs.Prelude.{ℕ, zero, suc, Bool, true, false, [], length, Option, Some, None}
+use Rattle.vdm_kinds.specs.declared.member.OpRef.{OpRef}
+use Rattle.vdm_kinds.specs.declared.member.VarRef.{VarRef}
+use Rattle.vdm_kinds.specs.declared.name.Name.{Name}
+use Rattle.vdm_kinds.specs.declared.operator.Operator.{Operator}
+use Rattle.vdm_kinds.specs.declared.operator.Operator.TheVariants.{Interval, LookUp}
+use Rattle.vdm_kinds.specs.declared.place.Place.{Place}
+use Rattle.vdm_kinds.specs.declared.sign.Sign.{Sign}
+use Rattle.vdm_kinds.specs.declared.sign.Sign.TheVariants.{And, Or, Implies}
+use Rattle.vdm_kinds.specs.declared.run_fault.RunFault.TheVariants.{NoMatch, TypeFault, Undefined}
+use Rattle.vdm_kinds.specs.Signs.{sign_operator}
+use Rattle.vdm_values.specs.declared.slot.Slot.{Slot}
+use Rattle.vdm_values.specs.declared.slot.Slot.TheVariants.{Unset, Held as Holds}
+use Rattle.abstract_syntax.specs.Classes.{SpecTree}
+use Rattle.abstract_syntax.specs.Expressions.{
+  ExprTree,
+  literal,
+  named,
+  undefined,
+  bracketed,
+  prefixed,
+  joined,
+  set_enumeration,
+  set_range,
+  set_comprehension,
+  empty_map,
+  map_enumeration,
+  map_comprehension,
+  sequence_enumeration,
+  sequence_comprehension,
+  make_tuple,
+  make_token,
+  create,
+  apply,
+  subsequence,
+  select,
+  select_part,
+  let_in,
+  let_be,
+  def_in,
+  if_else,
+  cases_of,
+  for_all,
+  exists_some,
+  exists_one,
+  iota_of,
+  ExprTrees,
+  no_exprs,
+  one_expr,
+  MaybeExpr,
+  left_out,
+  given_expr,
+  DefinedTrees,
+  no_defined,
+  one_defined,
+  BranchTrees,
+  no_branches,
+  one_branch,
+  CaseTrees,
+  no_cases,
+  one_case,
+  bind_in,
+  no_binds,
+  one_bind,
+  PatternTrees,
+  no_patterns,
+  one_pattern,
+  expr_place,
+}
+use Rattle.abstract_syntax.specs.Values.{ValueTree, boolean, map_of, no_pairs, object}
+use Rattle.pattern_meaning.specs.Ways.{literal_value}
+use Rattle.value_operators.specs.Outcomes.{sized}
+use Rattle.plans.specs.Plans.{become, part}
+use Rattle.node_meaning.specs.Calls.{Wanted, a_value, given}
+use Rattle.node_meaning.specs.Choosing.{collects, for_each, for_some, for_one, the_one, takes_first, choosing}
+use Rattle.node_meaning.specs.Envs.{Locals, Held, slot_held, Here, at, local_named}
+use Rattle.node_meaning.specs.Matching.{decided, meets}
+use Rattle.node_meaning.specs.Names.{variable_in, operation_reached, own_reached}
+use Rattle.node_meaning.specs.Needs.{Setting, asked}
+use Rattle.node_meaning.specs.Strict.{one_operand, two_operands, a_set, a_sequence, a_tuple, a_map, a_token, a_subsequence, a_component, strict, maplet_exprs}
+use Rattle.node_meaning.specs.Tasks.{expr_in, reads, calls, creates, Code, fault, value, value_or_fault, with_value, evaluated, cut_to}
+
+-- ---- names
+
+-- what a local or a held variable has; an unset one has no value
+abbrev pub slot_value : Place → Slot → Locals → Code
+slot_value place (Holds v) locals = value v locals
+slot_value place Unset locals = fault Undefined place
+
+abbrev pub held_value : Place → Option Slot → Locals → Code
+held_value place None locals = fault Undefined place
+held_value place (Some slot) locals = slot_value place slot locals
+
+-- a variable of the object is read
+abbrev pub read_on : Setting → Place → VarRef → Option ℕ → Locals → Code
+read_on setting place var None locals = fault Undefined place
+read_on setting place var (Some me) locals = asked setting (reads me var) place locals (with_value place value)
+
+-- ... or taken from what is held
+abbrev pub read_held : Setting → Place → VarRef → Option ℕ → Option Held → Locals → Code
+read_held setting place var me None locals = read_on setting place var me locals
+read_held setting place var me (Some held) locals = held_value place (slot_held held var) locals
+
+abbrev pub read_found : Setting → Here → Place → Option VarRef → Locals → Code
+read_found setting here place None locals = fault Undefined place
+read_found setting here place (Some var) locals = read_held setting place var here.me here.held locals
+
+-- a name that stands alone is the newest local of that name, or a variable
+abbrev pub name_value : Setting → Here → Place → Name → Option Slot → Locals → Code
+name_value setting here place name (Some slot) locals = slot_value place slot locals
+name_value setting here place name None locals = read_found setting here place (variable_in setting.spec here.scope name) locals
+
+-- ---- applications
+
+-- what is looked up: in one place alone
+abbrev pub looked_up : Here → ExprTree → ExprTrees → Place → Locals → Code
+looked_up here head (one_expr argument no_exprs) place locals =
+    strict here (two_operands LookUp) place (one_expr head (one_expr argument no_exprs)) locals
+looked_up here head _ place locals = fault TypeFault place
+
+-- so far nothing is called with arguments
+abbrev pub called_with : Setting → ExprTrees → ℕ → Name → OpRef → Place → Wanted → Locals → Code
+called_with setting no_exprs me own op place wanted locals = asked setting (calls me own op []) place locals (given wanted place)
+called_with setting (one_expr argument arguments) me own op place wanted locals = fault Undefined place
+
+-- a call on what has no such operation is a type fault at the call
+abbrev pub called_on : Setting → ExprTrees → ℕ → Name → Option OpRef → Place → Wanted → Locals → Code
+called_on setting arguments me own None place wanted locals = fault TypeFault place
+called_on setting arguments me own (Some op) place wanted locals = called_with setting arguments me own op place wanted locals
+
+abbrev pub arguments_of : ExprTrees → ℕ
+arguments_of no_exprs = zero
+arguments_of (one_expr argument arguments) = suc (arguments_of arguments)
+
+-- a call on a value, which has to be an object
+abbrev pub called_through : Setting → Option Name → Name → ExprTrees → Place → Wanted → ValueTree → Locals → Code
+called_through setting scope name arguments place wanted (object number class) locals =
+    called_on setting arguments number class (operation_reached setting.spec scope class name (arguments_of arguments)) place wanted locals
+called_through setting scope name arguments place wanted v locals = fault TypeFault place
+
+-- a name is called where it means an operation of the object, and else looked up in
+abbrev pub called_or_looked_up : Setting → Here → ExprTree → ExprTrees → Option ℕ → Option Name → Option OpRef → Place → Wanted → Locals → Code
+called_or_looked_up setting here head arguments (Some me) (Some own) (Some op) place wanted locals =
+    called_with setting arguments me own op place wanted locals
+called_or_looked_up setting here head arguments _ _ _ place wanted locals = looked_up here head arguments place locals
+
+-- a local hides an operation
+abbrev pub name_applied : Setting → Here → ExprTree → Name → ExprTrees → Place → Wanted → Option Slot → Locals → Code
+name_applied setting here head name arguments place wanted (Some slot) locals = looked_up here head arguments place locals
+name_applied setting here head name arguments place wanted None locals =
+    called_or_looked_up setting here head arguments here.me here.own
+    (own_reached setting.spec here.scope here.own name (arguments_of arguments)) place wanted locals
+
+-- what an application does, by what is applied; of a selection the object is evaluated first
+abbrev pub application : Setting → Here → ExprTree → ExprTrees → Place → Wanted → Locals → Code
+application setting here (named name name_place) arguments place wanted locals =
+    name_applied setting here (named name name_place) name arguments place wanted (local_named locals name) locals
+application setting here (select target name name_place dot) arguments place wanted locals =
+    evaluated here locals target place (called_through setting here.scope name arguments place wanted)
+application setting here head arguments place wanted locals = looked_up here head arguments place locals
+
+-- so far no class has a constructor
+abbrev pub created_with : Setting → ExprTrees → Name → Place → Locals → Code
+created_with setting no_exprs class place locals = asked setting (creates class []) place locals (with_value place value)
+created_with setting (one_expr argument arguments) class place locals = fault Undefined place
+
+-- ---- operators that stop when decided
+
+-- the value that the left operand decides, where it decides
+abbrev pub decided_by : Sign → Bool → Option Bool
+decided_by And false = Some false
+decided_by Or true = Some true
+decided_by Implies false = Some true
+decided_by _ _ = None
+
+abbrev pub truth : Bool → Locals → Code
+truth b locals = value (boolean b) locals
+
+abbrev pub unless_decided : Here → ExprTree → Place → Option Bool → Locals → Code
+unless_decided here right place (Some b) locals = truth b locals
+unless_decided here right place None locals = decided here locals right place truth
+
+abbrev pub right_truth : Here → Sign → ExprTree → Place → Bool → Locals → Code
+right_truth here sign right place b locals = unless_decided here right place (decided_by sign b) locals
+
+-- the sign of a strict operator, or one of those
+abbrev pub joined_by : Here → Option Operator → ExprTree → Sign → ExprTree → Place → Locals → Code
+joined_by here (Some operator) left sign right place locals =
+    strict here (two_operands operator) place (one_expr left (one_expr right no_exprs)) locals
+joined_by here None left sign right place locals = decided here locals left place (right_truth here sign right place)
+
+-- so far each sign before an operand is that of a strict operator
+abbrev pub prefixed_by : Here → Option Operator → ExprTree → Place → Locals → Code
+prefixed_by here (Some operator) tree place locals = strict here (one_operand operator) place (one_expr tree no_exprs) locals
+prefixed_by here None tree place locals = fault Undefined place
+
+-- ---- what is chosen
+
+-- the one branch where the condition is true
+abbrev pub branch : Here → ExprTree → (Locals → Code) → Bool → Locals → Code
+branch here tree otherwise true locals = become (expr_in (at here locals) tree)
+branch here tree otherwise false locals = otherwise locals
+
+abbrev pub branches : Here → Place → BranchTrees → ExprTree → Locals → Code
+branches here place no_branches otherwise locals = become (expr_in (at here locals) otherwise)
+branches here place (one_branch condition tree more) otherwise locals =
+    decided here locals condition place (branch here tree (branches here place more otherwise))
+
+-- an expression among the locals that were bound for it
+abbrev pub within : Here → ℕ → ExprTree → Locals → Code
+within here count body locals = part (expr_in (at here locals) body) (cut_to count)
+
+abbrev pub no_match : Place → Locals → Code
+no_match place locals = fault NoMatch place
+
+abbrev pub others_of : Here → Place → MaybeExpr → Locals → Code
+others_of here place left_out locals = fault NoMatch place
+others_of here place (given_expr tree) locals = become (expr_in (at here locals) tree)
+
+-- the patterns before one expression, and then the alternatives behind it
+abbrev pub patterns_met : SpecTree → Here → Place → ValueTree → PatternTrees → ℕ → ExprTree → (Locals → Code) → Locals → Code
+patterns_met spec here place v no_patterns count body more locals = more locals
+patterns_met spec here place v (one_pattern pattern patterns) count body more locals =
+    meets spec here place pattern (within here count body) (patterns_met spec here place v patterns count body more) v locals
+
+abbrev pub cases_met : SpecTree → Here → Place → CaseTrees → MaybeExpr → ℕ → ValueTree → Locals → Code
+cases_met spec here place no_cases others count v locals = others_of here place others locals
+cases_met spec here place (one_case patterns body more) others count v locals =
+    patterns_met spec here place v patterns count body (λ after. cases_met spec here place more others count v after) locals
+
+-- each definition sees the earlier ones; so far none has a type
+abbrev pub defined : SpecTree → Here → Place → ℕ → DefinedTrees → ExprTree → Locals → Code
+defined spec here place count no_defined body locals = within here count body locals
+defined spec here place count (one_defined pattern None tree more) body locals =
+    evaluated here locals tree place (meets spec here place pattern (defined spec here place count more body) (no_match place))
+defined spec here place count (one_defined pattern (Some declared) tree more) body locals = fault Undefined place
+
+-- ---- all kinds
+
+-- What has no meaning so far is undefined, and no accepted text has it.
+abbrev pub expr_plan : Setting → Here → Locals → ExprTree → Code
+expr_plan setting here locals (literal written place) = value_or_fault place (sized (literal_value written)) locals
+expr_plan setting here locals (named name place) = name_value setting here place name (local_named locals name) locals
+expr_plan setting here locals (undefined place) = fault Undefined place
+expr_plan setting here locals (bracketed inner place) = become (expr_in (at here locals) inner)
+expr_plan setting here locals (prefixed sign tree place) = prefixed_by here (sign_operator sign) tree place locals
+expr_plan setting here locals (joined left sign right place) = joined_by here (sign_operator sign) left sign right place locals
+expr_plan setting here locals (set_enumeration elements place) = strict here a_set place elements locals
+expr_plan setting here locals (set_range from to place) =
+    strict here (two_operands Interval) place (one_expr from (one_expr to no_exprs)) locals
+expr_plan setting here locals (set_comprehension element binds condition place) =
+    choosing setting.spec here place binds (collects a_set (one_expr element no_exprs) condition) locals
+expr_plan setting here locals (empty_map place) = value (map_of no_pairs) locals
+expr_plan setting here locals (map_enumeration maplets place) = strict here a_map place (maplet_exprs maplets) locals
+expr_plan setting here locals (map_comprehension key held binds condition place) =
+    choosing setting.spec here place binds (collects a_map (one_expr key (one_expr held no_exprs)) condition) locals
+expr_plan setting here locals (sequence_enumeration items place) = strict here a_sequence place items locals
+expr_plan setting here locals (sequence_comprehension item pattern set condition place) =
+    choosing setting.spec here place (one_bind (bind_in (one_pattern pattern no_patterns) set) no_binds)
+    (collects a_sequence (one_expr item no_exprs) condition) locals
+expr_plan setting here locals (make_tuple parts place) = strict here a_tuple place parts locals
+expr_plan setting here locals (make_token inner place) = strict here a_token place (one_expr inner no_exprs) locals
+expr_plan setting here locals (create class class_place arguments place) = created_with setting arguments class place locals
+expr_plan setting here locals (apply head arguments place) = application setting here head arguments place a_value locals
+expr_plan setting here locals (subsequence target from to place) =
+    strict here a_subsequence place (one_expr target (one_expr from (one_expr to no_exprs))) locals
+expr_plan setting here locals (select_part target number place) = strict here (a_component number) place (one_expr target no_exprs) locals
+expr_plan setting here locals (let_in definitions body place) =
+    defined setting.spec here place (length locals) definitions body locals
+expr_plan setting here locals (let_be bind condition body place) =
+    choosing setting.spec here place (one_bind bind no_binds) (takes_first condition body) locals
+expr_plan setting here locals (def_in pattern tree body place) =
+    defined setting.spec here place (length locals) (one_defined pattern None tree no_defined) body locals
+expr_plan setting here locals (if_else condition then_tree elseifs otherwise place) =
+    branches here place (one_branch condition then_tree elseifs) otherwise locals
+expr_plan setting here locals (cases_of subject alternatives others place) =
+    evaluated here locals subject place (cases_met setting.spec here place alternatives others (length locals))
+expr_plan setting here locals (for_all binds condition place) = choosing setting.spec here place binds (for_each condition) locals
+expr_plan setting here locals (exists_some binds condition place) = choosing setting.spec here place binds (for_some condition) locals
+expr_plan setting here locals (exists_one bind condition place) =
+    choosing setting.spec here place (one_bind bind no_binds) (for_one condition) locals
+expr_plan setting here locals (iota_of bind condition place) =
+    choosing setting.spec here place (one_bind bind no_binds) (the_one condition) locals
+expr_plan setting here locals tree = fault Undefined (expr_place tree)

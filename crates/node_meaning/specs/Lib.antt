@@ -1,0 +1,14 @@
+pub mod Calls
+pub mod Choosing
+pub mod Envs
+pub mod Expressions
+pub mod Faults
+pub mod Matching
+pub mod Names
+pub mod Needs
+pub mod Objects
+pub mod Statements
+pub mod Strict
+pub mod TaskPlans
+pub mod Tasks
+pub mod Types

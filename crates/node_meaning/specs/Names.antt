@@ -1,0 +1,65 @@
+-- What names stand for, by the table of the classes.
+use Rattle.std.specs.Prelude.{ℕ, List, Option, Some, None, option_map}
+use Rattle.std.specs.Option.{option_and_then}
+use Rattle.vdm_kinds.specs.declared.member.OpRef.{OpRef}
+use Rattle.vdm_kinds.specs.declared.member.VarRef.{VarRef}
+use Rattle.vdm_kinds.specs.declared.name.Name.{Name}
+use Rattle.abstract_syntax.specs.Classes.{VariableTree, OperationTree, SpecTree}
+use Rattle.class_meaning.specs.Classes.{class_number}
+use Rattle.class_meaning.specs.Calls.{reached}
+use Rattle.class_meaning.specs.Found.{found_variable}
+use Rattle.class_meaning.specs.Objects.{layout}
+use Rattle.class_meaning.specs.declared.found.VarFound.{VarFound}
+use Rattle.class_meaning.specs.declared.found.VarFound.TheVariants.{One, Several, None as NoVariable}
+use Rattle.class_meaning.specs.Found.{own_in}
+use Rattle.class_meaning.specs.Members.{Member, of_variable, of_operation}
+use Rattle.class_meaning.specs.declared.ask.Ask.TheVariants.{ByName, Called}
+
+-- the number of a class that may be named
+abbrev pub number_of : SpecTree → Option Name → Option ℕ
+number_of spec class = option_and_then (class_number spec) class
+
+-- ---- variables
+
+abbrev pub variable_of : Member → Option VariableTree
+variable_of (of_variable v) = Some v
+variable_of _ = None
+
+-- the definition of a variable in its class
+abbrev pub variable_definition : SpecTree → VarRef → Option VariableTree
+variable_definition spec v = option_and_then variable_of (option_and_then (own_in spec (ByName v.name)) (class_number spec v.class))
+
+-- the one variable that was found
+abbrev pub one_variable : VarFound → Option VarRef
+one_variable (One var) = Some var
+one_variable Several = None
+one_variable NoVariable = None
+
+-- the variable that a name means in the class in which a node stands
+abbrev pub variable_in : SpecTree → Option Name → Name → Option VarRef
+variable_in spec None name = None
+variable_in spec (Some class) name = option_and_then (λ (k : ℕ). one_variable (found_variable spec k name)) (class_number spec class)
+
+-- the variables of an object of a class, in order
+abbrev pub variables_of : SpecTree → Name → Option (List VarRef)
+variables_of spec class = option_map (layout spec) (class_number spec class)
+
+-- ---- operations
+
+abbrev pub operation_of : Member → Option OperationTree
+operation_of (of_operation o) = Some o
+operation_of _ = None
+
+-- the definition of an operation in its class
+abbrev pub operation_definition : SpecTree → OpRef → Option OperationTree
+operation_definition spec o = option_and_then operation_of (option_and_then (own_in spec (Called o.name o.arity)) (class_number spec o.class))
+
+-- the operation that a call through an object of a class reaches, where the call stands in a class or in none
+abbrev pub operation_reached : SpecTree → Option Name → Name → Name → ℕ → Option OpRef
+operation_reached spec scope class name arity =
+    option_and_then (λ (k : ℕ). reached spec (number_of spec scope) k name arity) (class_number spec class)
+
+-- ... and without an object before it: through the object on which the node stands, where it stands on one
+abbrev pub own_reached : SpecTree → Option Name → Option Name → Name → ℕ → Option OpRef
+own_reached spec scope None name arity = None
+own_reached spec scope (Some own) name arity = operation_reached spec scope own name arity

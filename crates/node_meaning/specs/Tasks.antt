@@ -1,0 +1,99 @@
+-- What is evaluated, what comes of it, and what is asked on the way.
+use Rattle.std.specs.Prelude.{ℕ, List, Result, Ok, Err, take}
+use Rattle.vdm_kinds.specs.declared.member.OpRef.{OpRef}
+use Rattle.vdm_kinds.specs.declared.member.VarRef.{VarRef}
+use Rattle.vdm_kinds.specs.declared.name.Name.{Name}
+use Rattle.vdm_kinds.specs.declared.run_fault.RunFault.{RunFault}
+use Rattle.vdm_kinds.specs.declared.run_fault.RunFault.TheVariants.{StepLimit, Undefined}
+use Rattle.vdm_kinds.specs.declared.place.Place.{Place}
+use Rattle.vdm_values.specs.declared.slot.Slot.{Slot}
+use Rattle.vdm_values.specs.declared.slot.Slot.TheVariants.{Unset, Held}
+use Rattle.abstract_syntax.specs.Values.{ValueTree}
+use Rattle.abstract_syntax.specs.Expressions.{ExprTree, expr_place}
+use Rattle.abstract_syntax.specs.Statements.{StmtTree, stmt_place}
+use Rattle.run_journal.specs.declared.answer.Answer.{Answer}
+use Rattle.run_journal.specs.declared.question.Question.{Question}
+use Rattle.plans.specs.Plans.{Plan, finish, fail, part}
+use Rattle.node_meaning.specs.Envs.{Locals, Here, Env, at}
+use Rattle.node_meaning.specs.Faults.{Fault, fault_at}
+
+-- what is evaluated: a node, which costs one unit
+pub data Task : Type 0 where
+  -- an expression, for its value
+  expr_in : Env → ExprTree → Task
+  -- a call whose value is not wanted: that of a call statement, or the whole expression of a run
+  call_in : Env → ExprTree → Task
+  stmt_in : Env → StmtTree → Task
+
+-- what comes of it, with the locals after it
+pub data Flow : Type 0 where
+  -- a value, or none where a call gave none
+  gave : Slot → Locals → Flow
+  -- a statement is done, and the next one follows
+  next : Locals → Flow
+  -- the body is done, with a value or without
+  returned : Slot → Locals → Flow
+  -- an exit with this value, at this place
+  exited : ValueTree → Place → Locals → Flow
+
+-- what an expression needs from outside of it
+pub data Need : Type 0 where
+  -- a variable of an object is read
+  reads : ℕ → VarRef → Need
+  -- an operation is called on an object, with its class and the arguments
+  calls : ℕ → Name → OpRef → List ValueTree → Need
+  -- an object of a class is made, with the arguments of its constructor
+  creates : Name → List ValueTree → Need
+  -- a text is printed
+  prints : List ValueTree → Need
+  -- the time is told
+  tells_time : Need
+
+-- what is asked: a question that an entry answers, or a need as such
+pub data Query : Type 0 where
+  noted : Question → Query
+  needed : Need → Query
+
+-- what a thread does
+abbrev pub Code : Type 0
+Code = Plan Task Flow Query Answer Fault
+
+-- a node that finds no unit left fails at its place
+abbrev pub spent : Task → Fault
+spent (expr_in env tree) = fault_at StepLimit (expr_place tree)
+spent (call_in env tree) = fault_at StepLimit (expr_place tree)
+spent (stmt_in env tree) = fault_at StepLimit (stmt_place tree)
+
+-- ---- plans that each kind of node is made of
+
+-- a fault that is no exit
+abbrev pub fault : RunFault → Place → Code
+fault kind place = fail (fault_at kind place)
+
+-- the value of a node
+abbrev pub value : ValueTree → Locals → Code
+value v locals = finish (gave (Held v) locals)
+
+-- the value, or the fault at the node's place
+abbrev pub value_or_fault : Place → Result ValueTree RunFault → Locals → Code
+value_or_fault place (Ok v) locals = value v locals
+value_or_fault place (Err kind) locals = fault kind place
+
+-- What is done with the value that came. A part that is no expression gives none, and then there is nothing to do it with.
+abbrev pub with_value : Place → (ValueTree → Locals → Code) → Flow → Code
+with_value place further (gave (Held v) locals) = further v locals
+with_value place further (gave Unset locals) = fault Undefined place
+with_value place further (next locals) = fault Undefined place
+with_value place further (returned slot locals) = fault Undefined place
+with_value place further (exited v from locals) = finish (exited v from locals)
+
+-- an expression, and what is done with its value
+abbrev pub evaluated : Here → Locals → ExprTree → Place → (ValueTree → Locals → Code) → Code
+evaluated here locals tree place further = part (expr_in (at here locals) tree) (with_value place further)
+
+-- the locals that were there before a node bound further ones
+abbrev pub cut_to : ℕ → Flow → Code
+cut_to count (gave slot locals) = finish (gave slot (take count locals))
+cut_to count (next locals) = finish (next (take count locals))
+cut_to count (returned slot locals) = finish (returned slot (take count locals))
+cut_to count (exited v from locals) = finish (exited v from (take count locals))

@@ -1,0 +1,16 @@
+use Rattle.std.proofs.Common.{sym, subst}
+use Rattle.run_journal.specs.declared.deed.Deed.{Deed}
+use Rattle.run_journal.specs.Parts.{object_part}
+use Rattle.spec_table.specs.Tables.{table_spec}
+use Rattle.vdm_legal.specs.AtObject.{IsLegalAtObject}
+use Rattle.plain_state.proofs.legal.is_legal_behind.Goals as goal
+
+pub returns-in-Act : goal.returns-in-Act
+returns-in-Act c =
+    let legal = λ (deed : Deed). IsLegalAtObject (table_spec c.args.table.now) c.args.entry.now.object (object_part c.args.entry.now.object c.args.before.now) deed in
+    (λ waits. subst legal (sym c.in-Act.is) (c.requires, c.is_waiting.ensures.0 waits), λ is. c.is_waiting.ensures.1 (subst legal c.in-Act.is is).1)
+
+pub returns-in-Fin : goal.returns-in-Fin
+returns-in-Fin c =
+    let legal = λ (deed : Deed). IsLegalAtObject (table_spec c.args.table.now) c.args.entry.now.object (object_part c.args.entry.now.object c.args.before.now) deed in
+    (λ active. subst legal (sym c.in-Fin.is) (c.requires, c.is_active.ensures.0 active), λ is. c.is_active.ensures.1 (subst legal c.in-Fin.is is).1)

@@ -1,0 +1,7 @@
+mod AtOnce
+mod Binds
+mod Bracketed
+mod Copied
+mod Going
+mod Results
+mod Sources

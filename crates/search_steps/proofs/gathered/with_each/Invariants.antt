@@ -1,0 +1,8 @@
+use Rattle.std.proofs.Common.{◌≡◌, ◌++◌, map, drop}
+use Rattle.expr_tree.specs.View.{pattern_view}
+use Rattle.eval_data.specs.Parts.{patterns_at}
+use Rattle.search_steps.proofs.gathered.with_each.Given as goal
+
+abbrev pub invariant-loop-pattern : goal.invariant-loop-pattern
+invariant-loop-pattern l =
+    patterns_at l.all.items ++ map pattern_view (drop l.pattern-index l.patterns) ≡ patterns_at l.initial.all.items ++ map pattern_view l.patterns

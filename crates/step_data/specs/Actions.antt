@@ -1,0 +1,120 @@
+-- What is waiting, what is asked, and what is done next: the plan of each.
+use Rattle.std.specs.Prelude.{ℕ, ◌+◌, List, [], ◌∷◌, length}
+use Rattle.abstract_syntax.specs.Classes.{SpecTree}
+use Rattle.abstract_syntax.specs.Expressions.{ExprTree}
+use Rattle.expr_tree.specs.View.{view_of}
+use Rattle.vdm_kinds.specs.declared.name.Name.{Name}
+use Rattle.vdm_tree.specs.StmtView.{target_view}
+use Rattle.run_journal.specs.declared.answer.Answer.{Answer}
+use Rattle.run_journal.specs.declared.question.Question.{Question}
+use Rattle.run_journal.specs.declared.question.Question.TheVariants as question
+use Rattle.plans.specs.Plans.{finish, fail, ask, part, become}
+use Rattle.node_meaning.specs.Calls.{requested, activated, ended}
+use Rattle.node_meaning.specs.Envs.{Locals}
+use Rattle.node_meaning.specs.Needs.{Setting, thread, asked, answered_slot}
+use Rattle.node_meaning.specs.Objects.{created, initial_value, initialise}
+use Rattle.node_meaning.specs.Statements.{assigned, called, unless_ended, sequence, return_value, written, write_of}
+use Rattle.node_meaning.specs.Tasks.{Flow as MeantFlow, Code, noted, fault, with_value}
+use Rattle.vdm_meaning.specs.Main.{uncaught, end_with, ended as main_ended, whole_expression, make_class_objects}
+use Rattle.eval_data.specs.Parts.{here_of, flow_of, need_of}
+use Rattle.eval_data.specs.Steps.{after_need, frame_then}
+use Rattle.eval_data.specs.declared.flow.Flow.TheVariants.{Gave}
+use Rattle.step_data.specs.declared.action.Action.{Action}
+use Rattle.step_data.specs.declared.action.Action.TheVariants.{Finish as Done, Fail, Uncaught, Ask, Part, Become, Need}
+use Rattle.step_data.specs.declared.asking.Asking.{Asking}
+use Rattle.step_data.specs.declared.asking.Asking.TheVariants.{Class, Request, Activation, Finish, Read, Write, New, End as Ending}
+use Rattle.step_data.specs.declared.making.Making.{Making}
+use Rattle.step_data.specs.declared.waiting.Waiting.{Waiting}
+use Rattle.step_data.specs.declared.waiting.Waiting.TheVariants.{Expr, After, Called, Rest, Assign, Return, Body, Initial, End}
+use Rattle.step_data.specs.Parts.{task_of, call_operation, statements_of}
+
+-- what a thread's nodes mean
+abbrev pub of_thread : SpecTree → Setting
+of_thread spec = record { spec = spec; asker = thread }
+
+-- ---- what is waiting
+
+-- the initialisers that are left, behind the slots
+abbrev pub initialisers : SpecTree → Making → Code
+initialisers spec m = initialise spec m.class m.place m.saved.items m.variables.now m.left.now m.slots.items
+
+-- one of them gives a slot, and then those behind it
+abbrev pub initial_of : SpecTree → Making → MeantFlow → Code
+initial_of spec m =
+    initial_value m.place m.saved.items (initialise spec m.class m.place m.saved.items m.variables.now m.left.now) m.slots.items
+
+abbrev pub waiting_then : SpecTree → Waiting → MeantFlow → Code
+waiting_then spec (Expr frame) = frame_then (of_thread spec) frame
+waiting_then spec (After after place) = after_need after place
+waiting_then spec Called = called
+waiting_then spec (Rest here statements) = unless_ended (sequence (here_of here) (statements_of statements.now))
+waiting_then spec (Assign here target place) = with_value place (assigned spec (here_of here) (target_view target.now) place)
+waiting_then spec (Return place) = with_value place return_value
+waiting_then spec (Body call saved) = ended call.me call.op (call_operation call).result_type call.place saved.items
+waiting_then spec (Initial making) = initial_of spec making.value
+waiting_then spec End = main_ended
+
+-- ---- what is asked
+
+-- the expression, and behind it main's end
+abbrev pub main_expression : ExprTree → Code
+main_expression tree = part (whole_expression tree) main_ended
+
+abbrev pub question_of : Asking → Question
+question_of (Class object others class tree) = question.Class object class []
+question_of (Request call) = question.Req call.me call.op
+question_of (Activation call) = question.Act call.me call.op
+question_of (Finish me op flow) = question.Fin me op
+question_of (Read me var) = question.Read me var
+question_of (Write me var v place) = question.Write me (write_of var v ∷ [])
+question_of (New class slots place) = question.New class slots
+question_of (Ending slot) = question.End slot
+
+-- what is done with the answer
+abbrev pub answered_of : Locals → Asking → Answer → Code
+answered_of locals (Class object others class tree) answer = make_class_objects (object + 1) others.now (main_expression (view_of tree.now))
+answered_of locals (Request call) answer = requested call.me call.own call.op (call_operation call) call.place locals answer
+answered_of locals (Activation call) answer = activated call.me call.own call.op (call_operation call) call.place locals answer
+answered_of locals (Finish me op flow) answer = finish (flow_of flow locals)
+answered_of locals (Read me var) answer = answered_slot locals answer
+answered_of locals (Write me var v place) answer = written place locals answer
+answered_of locals (New class slots place) answer = created class place locals answer
+answered_of locals (Ending slot) answer = finish (flow_of (Gave slot) locals)
+
+-- ---- what is done next
+
+abbrev pub action_code : SpecTree → Locals → Action → Code
+action_code spec locals (Done flow) = finish (flow_of flow locals)
+action_code spec locals (Fail kind place) = fault kind place
+action_code spec locals (Uncaught v place) = fail (uncaught v place)
+action_code spec locals (Ask asking) = ask (noted (question_of asking)) (answered_of locals asking)
+action_code spec locals (Part task waiting) = part (task_of task locals) (waiting_then spec waiting)
+action_code spec locals (Become task) = become (task_of task locals)
+action_code spec locals (Need need place after) = asked (of_thread spec) (need_of need) place locals (after_need after place)
+
+-- ---- what falls
+
+-- what an asking weighs: more than the action behind its answer
+abbrev pub weight : Asking → ℕ
+weight (Class object others class tree) = 2 + length others.now
+weight (Request call) = 3
+weight _ = 2
+
+-- what an action weighs, before the next question
+abbrev pub height : Action → ℕ
+height (Ask asking) = weight asking
+height (Need need place after) = 5
+height _ = 1
+
+-- whether another action follows at once
+abbrev pub busy : Action → ℕ
+busy (Done flow) = 1
+busy (Part task waiting) = 1
+busy (Become task) = 1
+busy (Need need place after) = 4
+busy _ = 0
+
+-- what waits behind a need weighs little, since it is done at once
+abbrev pub waiting_weight : Waiting → ℕ
+waiting_weight (After after place) = 2
+waiting_weight _ = 6

@@ -1,0 +1,50 @@
+// What a thread does next.
+
+ghost use Rattle.std.specs.Prelude.{◌≡◌, ◌≤◌};
+ghost use Rattle.abstract_syntax.specs.Classes.{SpecTree};
+ghost use Rattle.node_meaning.specs.Envs.{Locals};
+ghost use Rattle.eval_data.specs.Steps.{code_of};
+ghost use Rattle.step_data.specs.Actions.{action_code, of_thread, height};
+
+use crate::asking::Asking;
+use crate::task::Task;
+use crate::waiting::Waiting;
+use eval_data::{After, Flow, Need, Step};
+use vdm_kinds::{Place, RunFault};
+use vdm_values::Value;
+
+/// What a thread does next: a plan of the meaning, as data. The locals are the thread's.
+#[derive(Drop)]
+pub enum Action<'t> {
+    /// A node is done.
+    Finish(Flow),
+    /// The fault, at its place.
+    Fail(RunFault, Place),
+    /// An exit with this value, at this place, leaves the thread.
+    Uncaught(Value, Place),
+    Ask(Asking<'t>),
+    /// A part, and what is done with what comes of it.
+    Part(Task<'t>, Waiting<'t>),
+    /// A part in the node's stead.
+    Become(Task<'t>),
+    /// Something is needed for the node at the place; and what is done with what comes of it.
+    Need(Need, Place, After),
+}
+
+impl<'t> Action<'t> {
+    /// What a step of an expression is.
+    pub fn of(step: Step<'t>) -> Action<'t>
+        ensures same { (spec : SpecTree) (locals : Locals) → action_code spec locals result ≡ code_of (of_thread spec) locals step.entry }
+        ensures falls { height result ≤ 5 }
+    {
+        match step {
+            Step::Finish(flow) => Action::Finish(flow),
+            Step::Fail(fault, place) => Action::Fail(fault, place),
+            Step::Part(here, tree, frame) => {
+                Action::Part(Task::Expr(here, tree), Waiting::Expr(frame))
+            }
+            Step::Become(here, tree) => Action::Become(Task::Expr(here, tree)),
+            Step::Need(need, place, after) => Action::Need(need, place, after),
+        }
+    }
+}

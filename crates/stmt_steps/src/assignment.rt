@@ -1,0 +1,102 @@
+// Assignments.
+
+ghost use Rattle.std.specs.Prelude.{◌≡◌, ◌≤◌, option_map, Some};
+ghost use Rattle.std.specs.Borrow.{Bor};
+ghost use Rattle.abstract_syntax.specs.Classes.{SpecTree};
+ghost use Rattle.node_meaning.specs.Envs.{Locals};
+ghost use Rattle.node_meaning.specs.Statements.{assigned as assigned_plan, write_found as write_found_plan, write_typed as write_typed_plan, written as written_plan};
+ghost use Rattle.vdm_tree.specs.ClassView.{variable_view};
+ghost use Rattle.vdm_tree.specs.StmtView.{target_view};
+ghost use Rattle.vdm_tree.specs.declared.class_def.VarDef.{VarDef as VarDefOf};
+ghost use Rattle.spec_table.specs.Tables.{table_spec};
+ghost use Rattle.eval_data.specs.Parts.{here_of};
+ghost use Rattle.step_data.specs.Actions.{action_code, height};
+ghost use Rattle.stmt_steps.specs.Targets.{target_variable as target_variable_of};
+
+use eval_data::{Flow, Here};
+use name_steps::{variable_definition, variable_in};
+use run_journal::Answer;
+use spec_table::ClassTable;
+use step_data::{Action, Asking, fits};
+use vdm_kinds::{Name, Place, RunFault, VarRef};
+use vdm_tree::{Target, VarDef};
+use vdm_values::Value;
+
+/// A value for a target.
+#[tactic(auto, using(crate::proofs::Assigning::assigned_as))]
+pub fn assigned<'t>(
+    table: &'t ClassTable,
+    here: Here<'t>,
+    target: &'t Target,
+    place: Place,
+    value: Value,
+) -> Action<'t>
+    ensures same { (locals : Locals) → action_code (table_spec table.now) locals result ≡ assigned_plan (table_spec table.now) (here_of here.entry) (target_view target.now) place value locals }
+    ensures falls { height result ≤ 2 }
+{
+    let var = target_variable(table, here.scope, target);
+    write_found(table, here.me, var, place, value)
+}
+
+/// The variable that a target names. So far a target is a variable of the object alone.
+fn target_variable(table: &ClassTable, scope: Option<Name>, target: &Target) -> Option<VarRef>
+    ensures { result ≡ target_variable_of (table_spec table.now) scope (target_view target.now) }
+{
+    match target {
+        Target::Name(name, steps, _) => match steps.as_slice() {
+            [] => variable_in(table, scope, *name),
+            [_, ..] => None,
+        },
+        Target::Qualified(_, _, _, _, _) => None,
+    }
+}
+
+/// A value for a variable of the object.
+fn write_found<'t>(
+    table: &'t ClassTable,
+    me: Option<u32>,
+    var: Option<VarRef>,
+    place: Place,
+    value: Value,
+) -> Action<'t>
+    ensures same { (locals : Locals) → action_code (table_spec table.now) locals result ≡ write_found_plan (table_spec table.now) me var place value locals }
+    ensures falls { height result ≤ 2 }
+{
+    match (me, var) {
+        (Some(me), Some(var)) => {
+            write_typed(me, var, variable_definition(table, &var), place, value)
+        }
+        _ => Action::Fail(RunFault::Undefined, place),
+    }
+}
+
+/// The value is tested against the variable's type, and then written.
+fn write_typed<'t>(
+    me: u32,
+    var: VarRef,
+    definition: Option<&VarDef>,
+    place: Place,
+    value: Value,
+) -> Action<'t>
+    ensures same { (spec : SpecTree) (locals : Locals) → action_code spec locals result ≡ write_typed_plan me var (option_map (λ (v : Bor VarDefOf). variable_view v.now) definition.entry) place value locals }
+    ensures falls { height result ≤ 2 }
+{
+    let Some(definition) = definition else {
+        return Action::Fail(RunFault::Undefined, place);
+    };
+    if !fits(&definition.declared, &value) {
+        return Action::Fail(RunFault::TypeFault, place);
+    }
+    Action::Ask(Asking::Write(me, var, value, place))
+}
+
+/// What follows a write. One that was refused breaks an instance invariant.
+pub fn written<'t>(place: Place, answer: Answer) -> Action<'t>
+    ensures same { (spec : SpecTree) (locals : Locals) → action_code spec locals result ≡ written_plan place locals answer }
+    ensures falls { height result ≤ 1 }
+{
+    match answer {
+        Answer::Refused => Action::Fail(RunFault::InstanceInvariant, place),
+        _ => Action::Finish(Flow::Next),
+    }
+}

@@ -1,0 +1,10 @@
+pub mod Everywhere
+pub mod Gathered
+pub mod Operands
+pub mod NumberObjects
+pub mod SetObjects
+pub mod SequenceObjects
+pub mod MapObjects
+pub mod OperatorObjects
+pub mod WayObjects
+pub mod BindingObjects

@@ -1,0 +1,4 @@
+mod Elseifs
+mod FirstBracket
+mod InTuples
+mod Leaves

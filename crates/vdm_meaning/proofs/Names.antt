@@ -1,0 +1,82 @@
+-- Names that stand alone keep the rules.
+use mathlib.Core.List.{reverse-cons}
+use Rattle.std.proofs.Common.{◌∷◌, [], if◌then◌else◌, Bool, IfSome, List, None, Option, Some, false, option_map, reverse, subst, sym, true, ℕ}
+use Rattle.std.specs.List.{find, AllByRecursion as Each}
+use Rattle.vdm_kinds.specs.declared.member.VarRef.{VarRef}
+use Rattle.vdm_kinds.specs.declared.name.Name.{Name}
+use Rattle.vdm_kinds.specs.declared.place.Place.{Place}
+use Rattle.vdm_kinds.specs.declared.run_fault.RunFault.TheVariants.{Undefined}
+use Rattle.vdm_values.specs.declared.slot.Slot.{Slot}
+use Rattle.vdm_values.specs.declared.slot.Slot.TheVariants.{Unset, Held as Holds}
+use Rattle.abstract_syntax.specs.Classes.{SpecTree, is_same_name}
+use Rattle.value_parts.proofs.Everywhere.{each_append}
+use Rattle.class_meaning.specs.Laws.{is_same_variable}
+use Rattle.run_journal.specs.declared.entry.Entry.{Entry}
+use Rattle.vdm_legal.proofs.Known.{IsKnownSlot}
+use Rattle.node_meaning.specs.Tasks.{reads, value, with_value}
+use Rattle.node_meaning.specs.Names.{variable_in}
+use Rattle.node_meaning.specs.Strict.{there}
+use Rattle.node_meaning.specs.Expressions.{held_value, name_value, read_found, read_held, read_on, slot_value}
+use Rattle.node_meaning.specs.Envs.{Locals, Here, Held, slot_held, local_named}
+use Rattle.vdm_meaning.specs.Main.{of_thread}
+use Rattle.vdm_meaning.proofs.Rules.{AreKnown, HasObject, HoldsKnown, IsSafe}
+use Rattle.vdm_meaning.proofs.Parts.{IsAt, at-among, may-fail, safe-value, safe-with_value}
+use Rattle.vdm_meaning.proofs.Needs.{safe-asked}
+
+-- ---- what is found is known
+
+find-known : {X : Type 0} (P : X → Type 0) (test : X → Bool) (xs : List X) → Each P xs → IfSome (find test xs) P
+find-known P test [] h = tt
+find-known P test (x ∷ xs) h = by (test x) (find-known P test xs h.1)
+  where
+    by : (b : Bool) → IfSome (find test xs) P → IfSome (if b then Some x else find test xs) P
+    by true k = h.0
+    by false k = k
+
+second-known : {X : Type 0} (now : List Entry) (found : Option (X × Slot)) → IfSome found (λ (p : X × Slot). IsKnownSlot now p.1) → IfSome (option_map (λ (p : X × Slot). p.1) found) (IsKnownSlot now)
+second-known now None h = tt
+second-known now (Some p) h = h
+
+each_reverse : {X : Type 0} (P : X → Type 0) (xs : List X) → Each P xs → Each P (reverse xs)
+each_reverse P [] h = tt
+each_reverse P (x ∷ xs) h = subst (Each P) (sym (reverse-cons x xs)) (each_append P (reverse xs) (x ∷ []) (each_reverse P xs h.1) (h.0, tt))
+
+pub local-known : (now : List Entry) (locals : Locals) (name : Name) → AreKnown now locals → IfSome (local_named locals name) (IsKnownSlot now)
+local-known now locals name h =
+    second-known now (find (λ (l : Name × Slot). is_same_name name l.0) (reverse locals))
+    (find-known (λ (l : Name × Slot). IsKnownSlot now l.1) (λ (l : Name × Slot). is_same_name name l.0) (reverse locals)
+    (each_reverse (λ (l : Name × Slot). IsKnownSlot now l.1) locals h))
+
+held-known : (now : List Entry) (held : Held) (var : VarRef) → HoldsKnown now (Some held) → IfSome (slot_held held var) (IsKnownSlot now)
+held-known now held var h =
+    second-known now (find (λ (v : VarRef × Slot). is_same_variable var v.0) held.variables)
+    (find-known (λ (v : VarRef × Slot). IsKnownSlot now v.1) (λ (v : VarRef × Slot). is_same_variable var v.0) held.variables h)
+
+-- ---- plans
+
+module _ (spec : SpecTree) (first now : List Entry) (here : Here) (place : Place) (locals : Locals) (is_at : IsAt first now here locals) where
+  safe-slot : (slot : Slot) → IsKnownSlot now slot → IsSafe spec first now (slot_value place slot locals)
+  safe-slot (Holds v) known = safe-value spec (Some 3) v is_at known
+  safe-slot Unset known = may-fail spec Undefined place is_at.may
+
+  safe-held : (found : Option Slot) → IfSome found (IsKnownSlot now) → IsSafe spec first now (held_value place found locals)
+  safe-held None known = may-fail spec Undefined place is_at.may
+  safe-held (Some slot) known = safe-slot slot known
+
+  safe-read_on : (var : VarRef) (me : Option ℕ) → HasObject now me → IsSafe spec first now (read_on (of_thread spec) place var me locals)
+  safe-read_on var None there = may-fail spec Undefined place is_at.may
+  safe-read_on var (Some me) there =
+      safe-asked spec first now here locals (reads me var) place (with_value place value) is_at there (λ n later flow at_later known.
+      safe-with_value spec n place value flow at_later known (λ v after k l. safe-value spec n v (at-among at_later after l) k))
+
+  safe-read_held : (var : VarRef) (me : Option ℕ) (held : Option Held) → HasObject now me → HoldsKnown now held → IsSafe spec first now (read_held (of_thread spec) place var me held locals)
+  safe-read_held var me None there known = safe-read_on var me there
+  safe-read_held var me (Some held) there known = safe-held (slot_held held var) (held-known now held var known)
+
+  safe-read_found : (found : Option VarRef) → IsSafe spec first now (read_found (of_thread spec) here place found locals)
+  safe-read_found None = may-fail spec Undefined place is_at.may
+  safe-read_found (Some var) = safe-read_held var here.me here.held is_at.may.me is_at.may.held
+
+  pub safe-name : (name : Name) (local : Option Slot) → IfSome local (IsKnownSlot now) → IsSafe spec first now (name_value (of_thread spec) here place name local locals)
+  safe-name name (Some slot) known = safe-slot slot known
+  safe-name name None known = safe-read_found (variable_in spec here.scope name)
