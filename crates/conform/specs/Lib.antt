@@ -1,0 +1,4 @@
+pub mod Fits
+pub mod Frames
+pub mod Testings
+pub mod Turned

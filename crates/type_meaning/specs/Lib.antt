@@ -1,0 +1,4 @@
+pub mod Opening
+pub mod Shapes
+pub mod Tests
+pub mod Worked
