@@ -147,7 +147,8 @@ def items(node):
 
 
 def value(node):
-    _, [inner] = node
+    """A value as its node, kept alone or shared alike: what is asked for is what the value is, not who else has it."""
+    _, [(_, [inner])] = node
     return value_node(inner)
 
 

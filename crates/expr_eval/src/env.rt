@@ -54,7 +54,7 @@ fn bound(alloc: Global, pairs: &[(Name, Value)]) -> Result<Vec<(Name, Slot)>, Ou
 {
     let mut locals = Vec::with_capacity(alloc, pairs.len())?;
     for (name, value) in pairs {
-        let value = value.copy(alloc)?;
+        let value = value.copy(alloc)?.share(alloc)?;
         locals.push((*name, Slot::Held(value)))?;
     }
     Ok(locals)

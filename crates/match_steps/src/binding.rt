@@ -1,6 +1,6 @@
 // What patterns bind.
 
-ghost use Rattle.std.specs.Prelude.{◌≡◌, ◌++◌, map, IfOk, IfSome, IsSomeAnd, Err};
+ghost use Rattle.std.specs.Prelude.{◌≡◌, [], ◌∷◌, ◌++◌, map, IfOk, IfSome, IsSomeAnd, Err};
 ghost use Rattle.vdm_kinds.specs.declared.halt.Halt.{Halt};
 ghost use Rattle.vdm_kinds.specs.declared.place.Place.{Place};
 ghost use Rattle.vdm_kinds.specs.declared.run_fault.RunFault.TheVariants.{SizeLimit};
@@ -10,6 +10,7 @@ ghost use Rattle.node_meaning.specs.Matching.{first_match, bound_or};
 ghost use Rattle.node_meaning.specs.Tasks.{Code};
 ghost use Rattle.eval_data.specs.Parts.{patterns_at};
 ghost use Rattle.spec_table.specs.Tables.{table_spec};
+ghost use Rattle.vdm_values.specs.declared.slot.Slot.TheVariants.{Held};
 ghost use Rattle.match_steps.specs.Attempts.{attempted};
 
 use crate::attempt::Attempt;
@@ -50,13 +51,31 @@ fn type_scope(scope: Option<Name>) -> Name
     }
 }
 
-/// What is bound stands behind the locals.
-pub fn bound(locals: &mut Vec<(Name, Slot)>, binding: BindList) -> Result<(), OutOfMemory>
+/// What is bound stands behind the locals. It is shared, so that each look-up of a name takes constant time.
+pub fn bound(
+    alloc: Global,
+    locals: &mut Vec<(Name, Slot)>,
+    binding: BindList,
+) -> Result<(), OutOfMemory>
     ensures { IfOk result (λ _. locals.new.items ≡ locals.old.items ++ bound_locals binding) }
 {
     for (name, value) in binding.into_vec() {
-        locals.push((name, Slot::Held(value)))?;
+        push_shared(alloc, locals, name, value)?;
     }
+    Ok(())
+}
+
+/// A local with this value, which is shared.
+pub fn push_shared(
+    alloc: Global,
+    locals: &mut Vec<(Name, Slot)>,
+    name: Name,
+    value: Value,
+) -> Result<(), OutOfMemory>
+    ensures { IfOk result (λ _. locals.new.items ≡ locals.old.items ++ (name, Held value) ∷ []) }
+{
+    let value = value.share(alloc)?;
+    locals.push((name, Slot::Held(value)))?;
     Ok(())
 }
 
@@ -74,7 +93,7 @@ pub fn bound_or(
 {
     match first_match(alloc, table, scope, patterns, given, values) {
         Ok(Some(binding)) => {
-            bound(locals, binding)?;
+            bound(alloc, locals, binding)?;
             Ok(Attempt::Matched)
         }
         Ok(None) => Ok(Attempt::Missed),

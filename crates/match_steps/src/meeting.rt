@@ -37,6 +37,8 @@ pub fn meets<'t>(
 ) -> Result<Step<'t>, OutOfMemory>
     ensures { IfOk result (λ s. (asker : Asker) → code_of (record { spec = table_spec table.now; asker = asker }) locals.new.items s ≡ meets_with (table_spec table.now) met.entry place value locals.old.items) }
 {
+    // (what patterns bind are copies of parts of it, and mostly all of it)
+    let value = value.share(alloc)?;
     let trial = settled(alloc, table, locals, met, &value)?;
     ended(alloc, trial, place, value)
 }

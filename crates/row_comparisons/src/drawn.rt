@@ -98,12 +98,11 @@ impl Drawer {
 
     // Each member of a set with a value.
     fn map(&mut self, line: &mut Line<'_>) -> Value {
+        let set = self.set(line);
         let mut pairs = Vec::new(line.alloc());
-        if let Node::Set(keys) = self.set(line).into_node() {
-            for key in keys {
-                let value = self.item(line);
-                line.put(&mut pairs, (key, value));
-            }
+        for key in members(line, set) {
+            let value = self.item(line);
+            line.put(&mut pairs, (key, value));
         }
         let made = map_from(line.alloc(), PairList::from_vec(pairs));
         made_value(line, made)
@@ -173,6 +172,18 @@ fn copied(line: &mut Line<'_>, value: &Value) -> Value {
         Err(_) => {
             line.fall_short();
             Value::new(Node::Nil)
+        }
+    }
+}
+
+// The members of a set; of what is no set there are none.
+fn members(line: &mut Line<'_>, set: Value) -> Vec<Value> {
+    match set.into_node(line.alloc()) {
+        Ok(Node::Set(members)) => members,
+        Ok(_) => Vec::new(line.alloc()),
+        Err(_) => {
+            line.fall_short();
+            Vec::new(line.alloc())
         }
     }
 }

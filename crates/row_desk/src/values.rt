@@ -169,12 +169,13 @@ pub fn pairs_of(line: &mut Line<'_>, tuples: Vec<Value>) -> Vec<(Value, Value)> 
 }
 
 fn push_pair(line: &mut Line<'_>, pairs: &mut Vec<(Value, Value)>, tuple: Value) {
-    match tuple.into_node() {
-        Node::Tuple(mut parts) => {
+    match tuple.into_node(line.alloc()) {
+        Ok(Node::Tuple(mut parts)) => {
             let value = line.last(&mut parts, Value::new(Node::Nil));
             let key = line.last(&mut parts, Value::new(Node::Nil));
             line.put(pairs, (key, value));
         }
-        _ => line.refuse(),
+        Ok(_) => line.refuse(),
+        Err(_) => line.fall_short(),
     }
 }

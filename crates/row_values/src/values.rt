@@ -1,10 +1,12 @@
 // `order V V`: which of two values comes first. `rising V ..`: that each value is below those behind it, above those
 // before it and level with itself. `apart V ..`: that the copy of each value equals that value and no other. `same V V`:
-// whether the two are one. `taken V`: the value that its node makes. `size V`: nodes and levels.
+// whether the two are one. `taken V`: the value that the node of a copy makes, which shares it. `size V`: nodes and levels.
 
 use row_desk::Desk;
 use row_words::Line;
+use std::alloc::Global;
 use std::cmp::Ordering;
+use vdm_kinds::OutOfMemory;
 use vdm_sets::{depth, nodes};
 use vdm_values::{Value, order};
 
@@ -22,7 +24,17 @@ pub(crate) fn answer(desk: &mut Desk, line: &mut Line<'_>, word: &str) {
 
 fn taken(desk: &mut Desk, line: &mut Line<'_>) {
     let value = desk.value(line);
-    line.show(&Value::new(value.into_node()));
+    match retaken(line.alloc(), value) {
+        Ok(made) => line.show(&made),
+        Err(_) => line.fall_short(),
+    }
+}
+
+// The value that the node of a copy makes, where another value shares that node.
+fn retaken(alloc: Global, value: Value) -> Result<Value, OutOfMemory> {
+    let shared = value.share(alloc)?;
+    let node = shared.copy(alloc)?.into_node(alloc)?;
+    Ok(Value::new(node))
 }
 
 fn size(desk: &mut Desk, line: &mut Line<'_>) {

@@ -95,7 +95,8 @@ pub fn elements<'t>(
 ) -> Result<Step<'t>, OutOfMemory>
     ensures { IfOk result (λ s. (setting : Setting) → setting.spec ≡ table_spec table.now → code_of setting locals.new.items s ≡ use_of setting (Elements sets.entry) place value locals.old.items) }
 {
-    match value.into_node() {
+    let node = value.into_node(alloc)?;
+    match node {
         Node::Set(values) => with_set(alloc, table, locals, sets, ValueList::from_vec(values)),
         _ => Ok(Step::Fail(RunFault::NotSet, set_place(&sets))),
     }

@@ -3,12 +3,19 @@ use Rattle.std.specs.Prelude.{◌≡◌}
 use Rattle.std.specs.Bool.{⊤}
 use Rattle.std.specs.List.Sorted.{IsStrictlySortedBy}
 use Rattle.std.proofs.Common.{subst, sym}
+use Rattle.vdm_values.specs.declared.value.Kept.{Kept}
+use Rattle.vdm_values.specs.declared.value.Kept.TheVariants.{Alone, Shared}
 use Rattle.vdm_values.specs.declared.value.Node.{Node}
 use Rattle.vdm_values.specs.declared.value.Node.TheVariants.{Nil, Bool, Int, Char, Quote, Token, Tuple, Rec, Seq, Set, Map, Object}
 use Rattle.abstract_syntax.specs.Values.{ValueTree, nil, boolean, number, character, quote, token, tuple, record_of, sequence, set_of}
 use Rattle.abstract_syntax.specs.Values.{map_of, object, value_trees, pair_trees, value_list, pair_list, value_list-value_trees, pair_list-pair_trees}
 use Rattle.abstract_syntax.specs.ValueOrder.{value_order}
 use Rattle.abstract_syntax.specs.ValueSets.{key_order}
+
+-- the node of a value, whoever has it
+abbrev pub node_of : Kept → Node
+node_of (Alone n) = n
+node_of (Shared n) = n.value
 
 abbrev pub tree_of : Node → ValueTree
 tree_of Nil = nil

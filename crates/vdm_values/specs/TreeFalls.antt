@@ -1,11 +1,13 @@
 -- Each part of a value has fewer nodes than the value.
 use Rattle.std.specs.Prelude.{ℕ, ◌≤◌, ◌+◌, max, List, [], ◌∷◌}
 use Rattle.std.proofs.Common.{arith}
+use Rattle.vdm_values.specs.declared.value.Kept.{Kept}
+use Rattle.vdm_values.specs.declared.value.Kept.TheVariants.{Alone, Shared}
 use Rattle.vdm_values.specs.declared.value.Node.{Node}
 use Rattle.vdm_values.specs.declared.value.Node.TheVariants.{Token, Tuple, Rec, Seq, Set, Map}
-use Rattle.vdm_values.specs.declared.value.Value.TheDeep.{deep-Node}
+use Rattle.vdm_values.specs.declared.value.Value.TheDeep.{deep-Kept, deep-Node}
 use Rattle.abstract_syntax.specs.Values.{ValueTree, nodes_of, nodes_of_values, nodes_of_pairs, value_trees, pair_trees}
-use Rattle.vdm_values.specs.Tree.{tree_of}
+use Rattle.vdm_values.specs.Tree.{node_of, tree_of}
 use denote.Param.Weighed.{most}
 
 -- no value of a list has more nodes than all of them together
@@ -23,7 +25,7 @@ at_most_one_more : (deepest nodes : ℕ) → deepest ≤ nodes + 1 → max (max 
 at_most_one_more deepest nodes h = omega arith
 
 -- no part is deeper than the value has nodes
-pub deep-tree_of : (n : Node) → max (deep-Node n) 0 ≤ nodes_of (tree_of n)
+deep-tree_of : (n : Node) → max (deep-Node n) 0 ≤ nodes_of (tree_of n)
 deep-tree_of (Token v) = omega arith
 deep-tree_of (Tuple vs) = omega (arith, most_le-nodes_of_values vs.items)
 deep-tree_of (Rec class name vs) = omega (arith, most_le-nodes_of_values vs.items)
@@ -31,3 +33,8 @@ deep-tree_of (Seq vs) = omega (arith, most_le-nodes_of_values vs.items)
 deep-tree_of (Set vs) = omega (arith, most_le-nodes_of_values vs.items)
 deep-tree_of (Map ps) = at_most_one_more _ _ (most_le-nodes_of_pairs ps.items)
 deep-tree_of _ = omega arith
+
+-- ... whoever has its node
+pub deep-node_of : (k : Kept) → max (deep-Kept k) 0 ≤ nodes_of (tree_of (node_of k))
+deep-node_of (Alone n) = omega (arith, deep-tree_of n)
+deep-node_of (Shared n) = omega (arith, deep-tree_of n.value)

@@ -1,17 +1,27 @@
 // A value, which clauses see as its tree.
 
 ghost use Rattle.std.specs.Prelude.{◌≡◌, IfOk, IsTrue, ◌↔◌};
-ghost use Rattle.vdm_values.specs.Tree.{tree_of, IsRising};
+ghost use Rattle.vdm_values.specs.Tree.{node_of, tree_of, IsRising};
 
 use std::alloc::Global;
 use std::marker::Model;
+use std::sync::Arc;
 use vdm_kinds::{Name, OutOfMemory};
 
-/// A value of the language. Its node is read by `node` and taken out by `into_node`.
+/// A value of the language. Its node is read by `node` and taken out by `into_node`. One that was shared by `share` is copied
+/// in constant time, however large it is.
 #[cycle(value)]
 #[derive(Debug, Drop)]
 pub struct Value {
-    node: Node,
+    kept: Kept,
+}
+
+// A node of the value's own, or one that copies of the value share.
+#[cycle(value)]
+#[derive(Debug, Drop)]
+enum Kept {
+    Alone(Node),
+    Shared(Arc<Node>),
 }
 
 /// The kind of a value, with its parts.
@@ -47,17 +57,17 @@ impl Model for Value {
 
     ghost coded = { value_code };
 
-    ghost use Rattle.vdm_values.specs.Tree.{tree_of, IsRising};
+    ghost use Rattle.vdm_values.specs.Tree.{node_of, tree_of, IsRising};
 
-    ghost view = { λ v. tree_of v.node };
+    ghost view = { λ v. tree_of (node_of v.kept) };
 
-    ghost invariant = { λ v. IsRising v.node };
+    ghost invariant = { λ v. IsRising (node_of v.kept) };
 
     ghost size = { nodes_of };
 
-    ghost use Rattle.vdm_values.specs.TreeFalls.{deep-tree_of};
+    ghost use Rattle.vdm_values.specs.TreeFalls.{deep-node_of};
 
-    ghost size_decreases = { λ a _. deep-tree_of a.node };
+    ghost size_decreases = { λ a _. deep-node_of a.kept };
 }
 
 impl Value {
@@ -66,7 +76,9 @@ impl Value {
         requires { IsRising node }
         ensures { result ≡ tree_of node }
     {
-        Value { node }
+        Value {
+            kept: Kept::Alone(node),
+        }
     }
 
     /// The kind and the parts.
@@ -74,24 +86,46 @@ impl Value {
         ensures tree { self.now ≡ tree_of result.now }
         ensures rises { IsRising result.now }
     {
-        &self.node
+        self.kept.node()
     }
 
-    /// The kind and the parts, taken out.
-    pub fn into_node(self) -> Node
-        ensures tree { self ≡ tree_of result }
-        ensures rises { IsRising result }
+    /// The kind and the parts, taken out; they are copied where another value shares them.
+    pub fn into_node(self, alloc: Global) -> Result<Node, OutOfMemory>
+        ensures tree { IfOk result (λ n. self ≡ tree_of n) }
+        ensures rises { IfOk result IsRising }
     {
-        self.node
+        match self.kept {
+            Kept::Alone(node) => Ok(node),
+            Kept::Shared(shared) => {
+                let node = owned(alloc, shared)?;
+                Ok(node)
+            }
+        }
     }
 
-    /// A value of its own with the same tree.
+    /// The same value, whose copies take no memory from now on and share what it is made of. Only a value that has parts takes
+    /// memory for it, and only once.
+    pub fn share(self, alloc: Global) -> Result<Value, OutOfMemory>
+        ensures { IfOk result (λ v. v ≡ self) }
+    {
+        match self.kept {
+            Kept::Alone(node) => {
+                let kept = node.shared(alloc)?;
+                Ok(Value { kept })
+            }
+            Kept::Shared(shared) => Ok(Value {
+                kept: Kept::Shared(shared),
+            }),
+        }
+    }
+
+    /// A value with the same tree. It takes memory for its parts but where these are shared.
     #[cycle(copy)]
     pub fn copy(&self, alloc: Global) -> Result<Value, OutOfMemory>
         ensures { IfOk result (λ v. v ≡ self.now) }
     {
-        let node = self.node.copy(alloc)?;
-        Ok(Value { node })
+        let kept = self.kept.copy(alloc)?;
+        Ok(Value { kept })
     }
 
     // Whether the two are the same tree.
@@ -99,11 +133,68 @@ impl Value {
     fn equals(&self, other: &Value) -> bool
         ensures { IsTrue result ↔ self.now ≡ other.now }
     {
-        self.node.equals(&other.node)
+        self.node().equals(other.node())
+    }
+}
+
+impl Kept {
+    // The node, whoever has it.
+    fn node(&self) -> &Node
+        ensures { result.now ≡ node_of self.now }
+    {
+        match self {
+            Kept::Alone(node) => node,
+            Kept::Shared(shared) => shared,
+        }
+    }
+
+    // A node that stands for the same tree; one that is shared stays shared.
+    #[cycle(copy)]
+    fn copy(&self, alloc: Global) -> Result<Kept, OutOfMemory>
+        ensures { IfOk result (λ kept. tree_of (node_of kept) ≡ tree_of (node_of self.now)) }
+    {
+        match self {
+            Kept::Alone(node) => Ok(Kept::Alone(node.copy(alloc)?)),
+            Kept::Shared(shared) => Ok(Kept::Shared(shared.clone()?)),
+        }
+    }
+}
+
+// A shared node as one of one's own: moved where no other value has it.
+fn owned(alloc: Global, shared: Arc<Node>) -> Result<Node, OutOfMemory>
+    ensures { IfOk result (λ n. tree_of n ≡ tree_of shared.value) }
+{
+    match Arc::try_unwrap(shared) {
+        Ok(node) => Ok(node),
+        Err(shared) => shared.copy(alloc),
     }
 }
 
 impl Node {
+    // Whether it has parts, which a copy would copy.
+    fn has_parts(&self) -> bool {
+        match self {
+            Node::Token(_)
+            | Node::Tuple(_)
+            | Node::Rec { .. }
+            | Node::Seq(_)
+            | Node::Set(_)
+            | Node::Map(_) => true,
+            _ => false,
+        }
+    }
+
+    // The node as one that copies share, where it has parts.
+    fn shared(self, alloc: Global) -> Result<Kept, OutOfMemory>
+        ensures { IfOk result (λ kept. node_of kept ≡ self) }
+    {
+        if self.has_parts() {
+            Ok(Kept::Shared(Arc::new(alloc, self)?))
+        } else {
+            Ok(Kept::Alone(self))
+        }
+    }
+
     /// A node of its own that stands for the same tree.
     #[cycle(copy)]
     pub fn copy(&self, alloc: Global) -> Result<Node, OutOfMemory>

@@ -12,4 +12,4 @@ pub returns-in-Err-Of : goal.returns-in-Err-Of
 returns-in-Err-Of c = λ place matched missed.
     let is : c.first_match.result ≡ Err (Of c.in-Err-Of.fault) = cc in
     let past = c.first_match.ensures.refused c.in-Err-Of.fault is in
-    bound_past place matched missed _ c.in-Err-Of.fault c.args.locals.now.items past.0 past.1
+    rw c.in-Err-Of.field-0-is (bound_past place matched missed _ c.in-Err-Of.fault c.args.locals.now.items past.0 past.1)

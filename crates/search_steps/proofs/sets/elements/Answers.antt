@@ -9,4 +9,4 @@ returns-in-Set c =
     if_ok c.with_set.result c.with_set.ensures
     (λ s is setting e. is setting e
     ∙ set_came setting.spec c.args.sets.value c.in-Set.values.items c.from_vec.result c.args.value c.args.locals.now.items
-    (c.into_node.ensures.tree ∙ ap tree_of c.in-Set.is) c.from_vec.ensures)
+    (c.in_ok-node.ensures.tree ∙ ap tree_of c.in-Set.is) c.from_vec.ensures)

@@ -13,4 +13,4 @@ pub copy_values-copy-requires : goal.copy_values-copy-requires
 copy_values-copy-requires t c = (omega (arith, nodes_of-item _ _ _ c.value-item.is c.loop-value-test.true), tt)
 
 pub Value::copy-invariant_of-result : goal.Value::copy-invariant_of-result
-Value::copy-invariant_of-result t c = rising_as _ _ c.in_ok-node.ensures c.self.invariant
+Value::copy-invariant_of-result t c = rising_as _ _ c.in_ok-kept.ensures c.self.invariant
