@@ -1,2 +1,3 @@
 pub mod Groups
 pub mod Last
+pub mod Printing

@@ -1,5 +1,5 @@
 -- The first form that is not built of an expression, by groups of kinds: the program has a table for each.
-use Rattle.std.specs.Prelude.{Bool, false, Option, Some, None}
+use Rattle.std.specs.Prelude.{Option, Some, None}
 use Rattle.vdm_kinds.specs.declared.place.Place.{Place}
 use Rattle.abstract_syntax.specs.Expressions.{
   ExprTree,
@@ -7,7 +7,6 @@ use Rattle.abstract_syntax.specs.Expressions.{
   old_value,
   self_object,
   current_time,
-  result_value,
   bracketed,
   prefixed,
   joined,
@@ -48,13 +47,14 @@ use Rattle.abstract_syntax.specs.Expressions.{
 }
 use Rattle.text_phases.specs.Built.{
   or_behind,
-  unless,
-  has_none,
+  unbuilt_of_io,
   in_arguments,
-  first_unbuilt,
+  in_print,
+  unbuilt_in_expr,
   unbuilt_in_exprs,
   unbuilt_in_maybe,
   unbuilt_in_maplets,
+  unbuilt_in_field_values,
   unbuilt_in_defined,
   unbuilt_in_branches,
   unbuilt_in_cases,
@@ -64,36 +64,40 @@ use Rattle.text_phases.specs.Built.{
 }
 
 -- of operators and of what stands behind its operand; of all else nothing
-abbrev pub in_operands : (called : Bool) → ExprTree → Option Place
-in_operands called (bracketed inner place) = first_unbuilt false inner
-in_operands called (prefixed sign operand place) = first_unbuilt false operand
-in_operands called (joined left sign right place) = or_behind (first_unbuilt false left) (first_unbuilt false right)
-in_operands called (set_range first last place) = or_behind (first_unbuilt false first) (first_unbuilt false last)
-in_operands called (make_token inner place) = first_unbuilt false inner
-in_operands called (apply head arguments place) = or_behind (first_unbuilt (has_none arguments) head) (unbuilt_in_exprs arguments)
-in_operands called (subsequence target first last place) =
-    or_behind (first_unbuilt false target) (or_behind (first_unbuilt false first) (first_unbuilt false last))
-in_operands called (select target name name_place place) = or_behind (first_unbuilt false target) (unless called place)
-in_operands called (select_of_class target class class_place name name_place place) = or_behind (first_unbuilt false target) (Some place)
-in_operands called (select_part target number place) = first_unbuilt false target
-in_operands called _ = None
+abbrev pub in_operands : ExprTree → Option Place
+in_operands (bracketed inner place) = unbuilt_in_expr inner
+in_operands (prefixed sign operand place) = unbuilt_in_expr operand
+in_operands (joined left sign right place) = or_behind (unbuilt_in_expr left) (unbuilt_in_expr right)
+in_operands (set_range first last place) = or_behind (unbuilt_in_expr first) (unbuilt_in_expr last)
+in_operands (make_token inner place) = unbuilt_in_expr inner
+in_operands (is_of_type tested declared place) = unbuilt_in_expr tested
+in_operands (is_of_named type_name tested place) = unbuilt_in_expr tested
+in_operands (is_of_basic basic tested place) = unbuilt_in_expr tested
+in_operands (apply head arguments place) =
+    or_behind (unbuilt_in_expr head) (or_behind (in_print head arguments) (unbuilt_in_exprs arguments))
+in_operands (subsequence target first last place) =
+    or_behind (unbuilt_in_expr target) (or_behind (unbuilt_in_expr first) (unbuilt_in_expr last))
+in_operands (select target name name_place place) = unbuilt_in_expr target
+in_operands (select_of_class target class class_place name name_place place) = or_behind (unbuilt_in_expr target) (Some place)
+in_operands (select_part target number place) = unbuilt_in_expr target
+in_operands _ = None
 
 -- of what has binds; of all else nothing
 abbrev pub in_bound : ExprTree → Option Place
 in_bound (set_comprehension element binds condition place) =
-    or_behind (first_unbuilt false element) (or_behind (unbuilt_in_binds binds) (unbuilt_in_maybe condition))
+    or_behind (unbuilt_in_expr element) (or_behind (unbuilt_in_binds binds) (unbuilt_in_maybe condition))
 in_bound (map_comprehension key value binds condition place) =
-    or_behind (first_unbuilt false key)
-    (or_behind (first_unbuilt false value) (or_behind (unbuilt_in_binds binds) (unbuilt_in_maybe condition)))
+    or_behind (unbuilt_in_expr key)
+    (or_behind (unbuilt_in_expr value) (or_behind (unbuilt_in_binds binds) (unbuilt_in_maybe condition)))
 in_bound (sequence_comprehension item pattern set condition place) =
-    or_behind (first_unbuilt false item)
-    (or_behind (unbuilt_in_pattern pattern) (or_behind (first_unbuilt false set) (unbuilt_in_maybe condition)))
+    or_behind (unbuilt_in_expr item)
+    (or_behind (unbuilt_in_pattern pattern) (or_behind (unbuilt_in_expr set) (unbuilt_in_maybe condition)))
 in_bound (let_be bind condition body place) =
-    or_behind (unbuilt_in_bind bind) (or_behind (unbuilt_in_maybe condition) (first_unbuilt false body))
-in_bound (for_all binds condition place) = or_behind (unbuilt_in_binds binds) (first_unbuilt false condition)
-in_bound (exists_some binds condition place) = or_behind (unbuilt_in_binds binds) (first_unbuilt false condition)
-in_bound (exists_one bind condition place) = or_behind (unbuilt_in_bind bind) (first_unbuilt false condition)
-in_bound (iota_of bind condition place) = or_behind (unbuilt_in_bind bind) (first_unbuilt false condition)
+    or_behind (unbuilt_in_bind bind) (or_behind (unbuilt_in_maybe condition) (unbuilt_in_expr body))
+in_bound (for_all binds condition place) = or_behind (unbuilt_in_binds binds) (unbuilt_in_expr condition)
+in_bound (exists_some binds condition place) = or_behind (unbuilt_in_binds binds) (unbuilt_in_expr condition)
+in_bound (exists_one bind condition place) = or_behind (unbuilt_in_bind bind) (unbuilt_in_expr condition)
+in_bound (iota_of bind condition place) = or_behind (unbuilt_in_bind bind) (unbuilt_in_expr condition)
 in_bound _ = None
 
 -- of what has other lists, and of a `def`; of all else nothing
@@ -102,29 +106,25 @@ in_listed (set_enumeration elements place) = unbuilt_in_exprs elements
 in_listed (map_enumeration pairs place) = unbuilt_in_maplets pairs
 in_listed (sequence_enumeration items place) = unbuilt_in_exprs items
 in_listed (make_tuple parts place) = unbuilt_in_exprs parts
+in_listed (make_record type_name fields place) = unbuilt_in_exprs fields
+in_listed (modify_record target fields place) = or_behind (unbuilt_in_expr target) (unbuilt_in_field_values fields)
 in_listed (create class class_place arguments place) = in_arguments arguments
-in_listed (let_in definitions body place) = or_behind (unbuilt_in_defined definitions) (first_unbuilt false body)
+in_listed (let_in definitions body place) = or_behind (unbuilt_in_defined definitions) (unbuilt_in_expr body)
 in_listed (def_in pattern value body place) =
-    or_behind (unbuilt_in_pattern pattern) (or_behind (first_unbuilt false value) (first_unbuilt false body))
+    or_behind (unbuilt_in_pattern pattern) (or_behind (unbuilt_in_expr value) (unbuilt_in_expr body))
 in_listed (if_else condition value elseifs otherwise place) =
-    or_behind (first_unbuilt false condition)
-    (or_behind (first_unbuilt false value) (or_behind (unbuilt_in_branches elseifs) (first_unbuilt false otherwise)))
+    or_behind (unbuilt_in_expr condition)
+    (or_behind (unbuilt_in_expr value) (or_behind (unbuilt_in_branches elseifs) (unbuilt_in_expr otherwise)))
 in_listed (cases_of subject cases others place) =
-    or_behind (first_unbuilt false subject) (or_behind (unbuilt_in_cases cases) (unbuilt_in_maybe others))
+    or_behind (unbuilt_in_expr subject) (or_behind (unbuilt_in_cases cases) (unbuilt_in_maybe others))
 in_listed _ = None
 
 -- the place of what is not built, whatever stands in it; of all else nothing
 abbrev pub left_out_here : ExprTree → Option Place
-left_out_here (qualified class name name_place place) = Some place
+left_out_here (qualified class name name_place place) = unbuilt_of_io class place
 left_out_here (old_value name place) = Some place
 left_out_here (self_object place) = Some place
 left_out_here (current_time place) = Some place
-left_out_here (result_value place) = Some place
-left_out_here (make_record type_name fields place) = Some place
-left_out_here (modify_record target fields place) = Some place
-left_out_here (is_of_type tested declared place) = Some place
-left_out_here (is_of_named type_name tested place) = Some place
-left_out_here (is_of_basic basic tested place) = Some place
 left_out_here (is_of_class class class_place tested place) = Some place
 left_out_here (is_of_base_class class class_place tested place) = Some place
 left_out_here (same_class left right place) = Some place

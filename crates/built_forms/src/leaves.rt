@@ -1,13 +1,12 @@
 // What is built of a node by itself.
 
-ghost use Rattle.std.specs.Prelude.{◌≡◌, option_map};
-ghost use Rattle.text_phases.specs.Built.{expr_first, has_none, in_arguments, unbuilt_in_declared, unless};
-ghost use Rattle.type_tree.specs.TypeView.{type_view};
+ghost use Rattle.std.specs.Prelude.{◌≡◌};
+ghost use Rattle.text_phases.specs.Built.{expr_first, in_arguments, in_print, is_printing, print_place, unbuilt_of_io, unless};
 ghost use Rattle.expr_tree.specs.View.{view_of, views_of, expr_trees};
 ghost use Rattle.built_forms.specs.Groups.{left_out_here};
 
-use vdm_kinds::Place;
-use vdm_tree::{Expr, TypeExpr};
+use vdm_kinds::{Name, Place};
+use vdm_tree::Expr;
 
 /// Nothing where it is built, else the place.
 pub(crate) fn unless(built: bool, place: Place) -> Option<Place>
@@ -16,21 +15,29 @@ pub(crate) fn unless(built: bool, place: Place) -> Option<Place>
     (!built).then_some(place)
 }
 
+/// The place, if the class is `IO`, which has no meaning yet.
+pub(crate) fn unbuilt_of_io(class: Name, place: Place) -> Option<Place>
+    ensures { result ≡ unbuilt_of_io class place }
+{
+    (class == Name::IO).then_some(place)
+}
+
+/// Whether `IO` has an operation of this name, which has no meaning yet either.
+fn is_printing(name: Name) -> bool
+    ensures { result ≡ is_printing name }
+{
+    name == Name(1) || name == Name(2)
+}
+
 /// The place of what is not built, whatever stands in it.
 pub(crate) fn left_out_here(expr: &Expr) -> Option<Place>
     ensures { result ≡ left_out_here (view_of expr.now) }
 {
     match expr {
-        Expr::Qualified(_, _, _, _)
-        | Expr::Old(_, _)
+        Expr::Qualified(class, _, _, place) => unbuilt_of_io(*class, *place),
+        Expr::Old(_, _)
         | Expr::SelfObject(_)
         | Expr::Time(_)
-        | Expr::Result(_)
-        | Expr::MakeRecord(_, _, _)
-        | Expr::ModifyRecord(_, _, _)
-        | Expr::IsOfType(_, _, _)
-        | Expr::IsOfNamed(_, _, _)
-        | Expr::IsOfBasic(_, _, _)
         | Expr::IsOfClass(_, _, _, _)
         | Expr::IsOfBaseClass(_, _, _, _)
         | Expr::SameClass(_, _, _)
@@ -55,16 +62,6 @@ pub(crate) fn expr_first(expr: &Expr) -> Place
     }
 }
 
-/// Whether there are no arguments.
-pub(crate) fn has_none(arguments: &[Expr]) -> bool
-    ensures { result ≡ has_none (expr_trees (views_of arguments.now)) }
-{
-    match arguments.first() {
-        Some(_) => false,
-        None => true,
-    }
-}
-
 /// Where the first argument of a new object begins: none is built.
 pub(crate) fn in_arguments(arguments: &[Expr]) -> Option<Place>
     ensures { result ≡ in_arguments (expr_trees (views_of arguments.now)) }
@@ -73,12 +70,22 @@ pub(crate) fn in_arguments(arguments: &[Expr]) -> Option<Place>
     Some(expr_first(argument))
 }
 
-/// Where the type of what a `let` defines stands: none is built.
-pub(crate) fn unbuilt_in_declared(declared: &Option<TypeExpr>) -> Option<Place>
-    ensures { result ≡ unbuilt_in_declared (option_map type_view declared.now) }
+/// Where such a name is selected.
+fn print_place(head: &Expr) -> Option<Place>
+    ensures { result ≡ print_place (view_of head.now) }
 {
-    match declared {
-        Some(declared) => Some(declared.place()),
-        None => None,
+    match head {
+        Expr::Select(_, name, _, place) => unless(!is_printing(*name), *place),
+        _ => None,
+    }
+}
+
+/// Where an object may be asked to print, which takes arguments.
+pub(crate) fn in_print(head: &Expr, arguments: &[Expr]) -> Option<Place>
+    ensures { result ≡ in_print (view_of head.now) (expr_trees (views_of arguments.now)) }
+{
+    match arguments {
+        [] => None,
+        [_, ..] => print_place(head),
     }
 }

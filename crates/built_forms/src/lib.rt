@@ -2,6 +2,7 @@
 #![tactic(auto)]
 
 mod classes;
+mod definitions;
 mod exprs;
 mod faults;
 mod leaves;

@@ -1,16 +1,16 @@
 // Variables and operations: the first form that is not built.
 
 ghost use Rattle.std.specs.Prelude.{◌≡◌, ◌&&◌, not, map, option_map};
-ghost use Rattle.text_phases.specs.Built.{unless, is_same_place, unbuilt_in_type, lacks_initial, unbuilt_in_initial, unbuilt_in_variable, unbuilt_in_item, unbuilt_in_items, is_public, is_constructor, lacks_body, unbuilt_in_parameters, unbuilt_in_parameter_patterns, unbuilt_in_result, unbuilt_in_body, unbuilt_in_condition, unbuilt_in_head, unbuilt_behind_head, unbuilt_in_operation, unbuilt_in_operations};
+ghost use Rattle.text_phases.specs.Built.{unless, is_same_place, lacks_initial, unbuilt_in_variable, unbuilt_in_item, unbuilt_in_items, is_public, is_constructor, lacks_body, unbuilt_in_parameters, unbuilt_in_parameter_patterns, unbuilt_in_body, unbuilt_in_condition, unbuilt_in_head, unbuilt_behind_head, unbuilt_in_operation, unbuilt_in_operations};
 ghost use Rattle.type_tree.specs.TypeView.{type_view, type_views};
 ghost use Rattle.expr_tree.specs.View.{view_of, boxed_view, pattern_views};
 ghost use Rattle.vdm_tree.specs.StmtView.{boxed_stmt};
 ghost use Rattle.vdm_tree.specs.ClassView.{variable_view, variable_item_view, operation_view, body_view};
 
-use crate::exprs::unbuilt_in_expr;
+use crate::definitions::unbuilt_if_given;
 use crate::leaves::{expr_first, unless};
 use crate::statements::{unbuilt_in_block, unbuilt_in_stmt};
-use vdm_kinds::{BasicType, Name, Place};
+use vdm_kinds::{Name, Place};
 use vdm_tree::{Access, Body, Expr, Level, OpDef, Pattern, Stmt, TypeExpr, VarDef, VariableItem};
 
 fn is_same_place(a: Place, b: Place) -> bool
@@ -19,27 +19,7 @@ fn is_same_place(a: Place, b: Place) -> bool
     a.line == b.line && a.column == b.column
 }
 
-/// The types are `bool`, `nat`, `nat1`, `int` and `char`.
-fn unbuilt_in_type(declared: &TypeExpr) -> Option<Place>
-    ensures { result ≡ unbuilt_in_type (type_view declared.now) }
-{
-    match declared {
-        TypeExpr::Basic(BasicType::Token, place) => Some(*place),
-        TypeExpr::Basic(_, _) => None,
-        _ => Some(declared.place()),
-    }
-}
-
 // ---- variables
-
-fn unbuilt_in_initial(initial: &Option<Box<Expr>>) -> Option<Place>
-    ensures { result ≡ unbuilt_in_initial (option_map boxed_view initial.now) }
-{
-    match initial {
-        Some(value) => unbuilt_in_expr(value),
-        None => None,
-    }
-}
 
 fn lacks_initial(initial: &Option<Box<Expr>>, place: Place) -> Option<Place>
     ensures { result ≡ lacks_initial (option_map boxed_view initial.now) place }
@@ -56,8 +36,7 @@ fn unbuilt_in_variable(variable: &VarDef) -> Option<Place>
     let begins = is_same_place(variable.place, variable.name_place);
     unless(begins, variable.place)
         .or(lacks_initial(&variable.initial, variable.place))
-        .or(unbuilt_in_type(&variable.declared))
-        .or(unbuilt_in_initial(&variable.initial))
+        .or(unbuilt_if_given(&variable.initial))
 }
 
 fn unbuilt_in_item(item: &VariableItem) -> Option<Place>
@@ -113,15 +92,6 @@ fn unbuilt_in_parameter_patterns(patterns: &[Pattern]) -> Option<Place>
     Some(pattern.place())
 }
 
-fn unbuilt_in_result(declared: &Option<TypeExpr>) -> Option<Place>
-    ensures { result ≡ unbuilt_in_result (option_map type_view declared.now) }
-{
-    match declared {
-        Some(declared) => unbuilt_in_type(declared),
-        None => None,
-    }
-}
-
 /// A body without a result returns nothing, and one with a result returns a value at its end.
 fn unbuilt_in_body(declared: &Option<TypeExpr>, body: &Body<Box<Stmt>>) -> Option<Place>
     ensures { result ≡ unbuilt_in_body (option_map type_view declared.now) (body_view boxed_stmt body.now) }
@@ -163,7 +133,6 @@ fn unbuilt_in_head(class: Name, operation: &OpDef) -> Option<Place>
     unless(is_plain(class, operation), operation.place)
         .or(lacks_body(&operation.body, operation.place))
         .or(unbuilt_in_parameters(&operation.parameters))
-        .or(unbuilt_in_result(&operation.result_type))
         .or(unbuilt_in_parameter_patterns(&operation.patterns))
 }
 

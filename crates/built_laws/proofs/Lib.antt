@@ -3,4 +3,8 @@ pub mod Lists
 pub mod PartsBuilt
 pub mod Exprs
 pub mod Stmts
+pub mod Classes
+pub mod Quiet
+pub mod TypeTests
+pub mod OfIo
 pub mod Plans

@@ -1,10 +1,14 @@
 -- What stands right in an expression that is built is built.
-use Rattle.std.proofs.Common.{◌≡◌, true, Bool, false, List, [], ◌∷◌, ◌++◌, Option, Some, None, refl}
+use Rattle.std.proofs.Common.{◌≡◌, Bool, true, false, not, ◌||◌, [], ◌∷◌, ◌++◌, None, refl}
+use Rattle.vdm_kinds.specs.NameList.{io}
+use Rattle.vdm_kinds.specs.declared.place.Place.{Place}
+use Rattle.abstract_syntax.specs.Classes.{is_same_name}
 use Rattle.abstract_syntax.specs.Expressions.{
   ExprTree,
   ExprTrees,
   MaybeExpr,
   MapletTrees,
+  FieldValueTrees,
   DefinedTrees,
   BranchTrees,
   CaseTrees,
@@ -15,7 +19,9 @@ use Rattle.abstract_syntax.specs.Expressions.{
   MapletPatterns,
   literal,
   named,
+  qualified,
   undefined,
+  result_value,
   bracketed,
   prefixed,
   joined,
@@ -29,9 +35,15 @@ use Rattle.abstract_syntax.specs.Expressions.{
   sequence_comprehension,
   make_tuple,
   make_token,
+  make_record,
+  modify_record,
+  is_of_type,
+  is_of_named,
+  is_of_basic,
   create,
   apply,
   subsequence,
+  select,
   select_part,
   let_in,
   let_be,
@@ -42,7 +54,6 @@ use Rattle.abstract_syntax.specs.Expressions.{
   exists_some,
   exists_one,
   iota_of,
-  select,
   select_of_class,
   no_exprs,
   one_expr,
@@ -50,6 +61,8 @@ use Rattle.abstract_syntax.specs.Expressions.{
   given_expr,
   no_maplets,
   one_maplet,
+  no_field_values,
+  one_field_value,
   no_defined,
   one_defined,
   no_branches,
@@ -75,18 +88,18 @@ use Rattle.abstract_syntax.specs.Expressions.{
   no_maplet_patterns,
   one_maplet_pattern,
 }
-use Rattle.abstract_syntax.specs.Types.{type_place}
+use Rattle.class_meaning.specs.Classes.{print, println}
 use Rattle.pattern_meaning.specs.Brackets.{given_in, given_in_each, given_in_maplets}
-use Rattle.text_phases.specs.Built.{or_behind, has_none, first_unbuilt, unbuilt_in_exprs, unbuilt_in_maybe, unbuilt_in_maplets, unbuilt_in_defined, unbuilt_in_branches, unbuilt_in_cases, unbuilt_in_bind, unbuilt_in_binds, unbuilt_in_pattern, unbuilt_in_patterns, unbuilt_in_maplet_patterns, IsBuiltExpr}
-use Rattle.built_laws.specs.Parts.{exprs_in, maybe_in, maplets_in, definitions_in, branches_in, cases_in, bind_parts, binds_in, head_in, parts}
-use Rattle.built_laws.specs.Meant.{Each, has_plan, definitions_of, are_untyped}
+use Rattle.text_phases.specs.Built.{or_behind, unless, print_place, unbuilt_in_expr, unbuilt_in_exprs, unbuilt_in_maybe, unbuilt_in_maplets, unbuilt_in_field_values, unbuilt_in_defined, unbuilt_in_branches, unbuilt_in_cases, unbuilt_in_bind, unbuilt_in_binds, unbuilt_in_pattern, unbuilt_in_patterns, unbuilt_in_maplet_patterns, IsBuiltExpr}
+use Rattle.built_laws.specs.Parts.{exprs_in, maybe_in, maplets_in, field_values_in, definitions_in, branches_in, cases_in, bind_parts, binds_in, parts}
+use Rattle.built_laws.specs.Meant.{Each, has_plan, selects_print, prints}
 use Rattle.built_laws.proofs.Lists.{each-append}
 use Rattle.built_laws.proofs.Nothing.{first-none, behind-none, told-none, told-behind}
 
 -- ---- the expressions in brackets in patterns
 
 mutual
-  given_built : (p : PatternTree) → unbuilt_in_pattern p ≡ None → Each IsBuiltExpr (given_in p)
+  pub given_built : (p : PatternTree) → unbuilt_in_pattern p ≡ None → Each IsBuiltExpr (given_in p)
   given_built (any_value place) h = tt
   given_built (bound name place) h = tt
   given_built (literal_pattern value place) h = tt
@@ -96,7 +109,7 @@ mutual
   given_built (map_pattern maplets place) h = maplets_given maplets h
   given_built (empty_map_pattern place) h = tt
   given_built (tuple_pattern elements place) h = each_built elements h
-  given_built (record_pattern t fields place) h = told-none place h
+  given_built (record_pattern t fields place) h = each_built fields h
   given_built (concatenation_pattern elements place) h = each_built elements h
 
   each_built : (ps : PatternTrees) → unbuilt_in_patterns ps ≡ None → Each IsBuiltExpr (given_in_each ps)
@@ -126,10 +139,14 @@ maplets_built no_maplets h = tt
 maplets_built (one_maplet key value ms) h =
     let behind = behind-none _ _ h in (first-none _ _ h, (first-none _ _ behind, maplets_built ms (behind-none _ _ behind)))
 
+field_values_built : (fs : FieldValueTrees) → unbuilt_in_field_values fs ≡ None → Each IsBuiltExpr (field_values_in fs)
+field_values_built no_field_values h = tt
+field_values_built (one_field_value name name_place value fs) h = (first-none _ _ h, field_values_built fs (behind-none _ _ h))
+
 definitions_built : (ds : DefinedTrees) → unbuilt_in_defined ds ≡ None → Each IsBuiltExpr (definitions_in ds)
 definitions_built no_defined h = tt
 definitions_built (one_defined pattern declared value ds) h =
-    let behind = behind-none _ _ (behind-none _ _ h) in
+    let behind = behind-none _ _ h in
     each-append IsBuiltExpr (given_in pattern) (value ∷ definitions_in ds) (given_built pattern (first-none _ _ h))
     (first-none _ _ behind, definitions_built ds (behind-none _ _ behind))
 
@@ -156,7 +173,7 @@ binds_built (one_bind b bs) h =
 
 -- ---- what comes one behind the other
 
-two_built : (a b : ExprTree) → or_behind (first_unbuilt false a) (first_unbuilt false b) ≡ None → Each IsBuiltExpr (a ∷ b ∷ [])
+two_built : (a b : ExprTree) → or_behind (unbuilt_in_expr a) (unbuilt_in_expr b) ≡ None → Each IsBuiltExpr (a ∷ b ∷ [])
 two_built a b h = (first-none _ _ h, (behind-none _ _ h, tt))
 
 binds_where : (bs : BindTrees) (e : MaybeExpr) → or_behind (unbuilt_in_binds bs) (unbuilt_in_maybe e) ≡ None
@@ -164,25 +181,22 @@ binds_where : (bs : BindTrees) (e : MaybeExpr) → or_behind (unbuilt_in_binds b
 binds_where bs e h =
     each-append IsBuiltExpr (binds_in bs) (maybe_in e) (binds_built bs (first-none _ _ h)) (maybe_built e (behind-none _ _ h))
 
-binds_then : (bs : BindTrees) (e : ExprTree) → or_behind (unbuilt_in_binds bs) (first_unbuilt false e) ≡ None
+binds_then : (bs : BindTrees) (e : ExprTree) → or_behind (unbuilt_in_binds bs) (unbuilt_in_expr e) ≡ None
     → Each IsBuiltExpr (binds_in bs ++ (e ∷ []))
 binds_then bs e h = each-append IsBuiltExpr (binds_in bs) (e ∷ []) (binds_built bs (first-none _ _ h)) (behind-none _ _ h, tt)
 
-bind_then : (b : BindTree) (e : ExprTree) → or_behind (unbuilt_in_bind b) (first_unbuilt false e) ≡ None
+bind_then : (b : BindTree) (e : ExprTree) → or_behind (unbuilt_in_bind b) (unbuilt_in_expr e) ≡ None
     → Each IsBuiltExpr (bind_parts b ++ (e ∷ []))
 bind_then b e h = each-append IsBuiltExpr (bind_parts b) (e ∷ []) (bind_built b (first-none _ _ h)) (behind-none _ _ h, tt)
 
 -- ---- all kinds
 
--- what is evaluated of what is called
-head_built : (called : Bool) (head : ExprTree) → first_unbuilt called head ≡ None → IsBuiltExpr (head_in head)
-head_built called (select target name name_place place) h = first-none _ _ h
-head_built called head h = h
-
 pub parts_built : (tree : ExprTree) → IsBuiltExpr tree → Each IsBuiltExpr (parts tree)
 parts_built (literal value place) h = tt
 parts_built (named name place) h = tt
+parts_built (qualified class name name_place place) h = tt
 parts_built (undefined place) h = tt
+parts_built (result_value place) h = tt
 parts_built (bracketed inner place) h = (h, tt)
 parts_built (prefixed sign operand place) h = (h, tt)
 parts_built (joined left sign right place) h = two_built left right h
@@ -203,10 +217,16 @@ parts_built (sequence_comprehension item pattern set condition place) h =
     )
 parts_built (make_tuple elements place) h = exprs_built elements h
 parts_built (make_token inner place) h = (h, tt)
+parts_built (make_record type_name fields place) h = exprs_built fields h
+parts_built (modify_record target fields place) h = (first-none _ _ h, field_values_built fields (behind-none _ _ h))
+parts_built (is_of_type tested declared place) h = (h, tt)
+parts_built (is_of_named type_name tested place) h = (h, tt)
+parts_built (is_of_basic basic tested place) h = (h, tt)
 parts_built (create class class_place no_exprs place) h = tt
 parts_built (create class class_place (one_expr argument arguments) place) h = told-none _ h
-parts_built (apply head arguments place) h = (head_built (has_none arguments) head (first-none _ _ h), exprs_built arguments (behind-none _ _ h))
+parts_built (apply head arguments place) h = (first-none _ _ h, exprs_built arguments (behind-none _ _ (behind-none _ _ h)))
 parts_built (subsequence target first last place) h = (first-none _ _ h, two_built first last (behind-none _ _ h))
+parts_built (select target name name_place place) h = (h, tt)
 parts_built (select_part target number place) h = (h, tt)
 parts_built (let_in definitions body place) h =
     each-append IsBuiltExpr (definitions_in definitions) (body ∷ []) (definitions_built definitions (first-none _ _ h)) (behind-none _ _ h, tt)
@@ -234,16 +254,21 @@ parts_built (for_all binds condition place) h = binds_then binds condition h
 parts_built (exists_some binds condition place) h = binds_then binds condition h
 parts_built (exists_one bind condition place) h = bind_then bind condition h
 parts_built (iota_of bind condition place) h = bind_then bind condition h
-parts_built (select target name name_place place) h = told-behind (first_unbuilt false target) place h
-parts_built (select_of_class target class class_place name name_place place) h = told-behind (first_unbuilt false target) place h
+parts_built (select_of_class target class class_place name name_place place) h = told-behind (unbuilt_in_expr target) place h
 parts_built tree h = told-none _ h
 
 -- ---- the node itself
 
+is_there : (b : Bool) (place : Place) → unless b place ≡ None → b ≡ true
+is_there true place h = refl
+is_there false place h = told-none place h
+
 pub plan_there : (tree : ExprTree) → IsBuiltExpr tree → has_plan tree ≡ true
 plan_there (literal value place) h = refl
 plan_there (named name place) h = refl
+plan_there (qualified class name name_place place) h = is_there (not (is_same_name class io)) place h
 plan_there (undefined place) h = refl
+plan_there (result_value place) h = refl
 plan_there (bracketed inner place) h = refl
 plan_there (prefixed sign operand place) h = refl
 plan_there (joined left sign right place) h = refl
@@ -257,10 +282,16 @@ plan_there (sequence_enumeration items place) h = refl
 plan_there (sequence_comprehension item pattern set condition place) h = refl
 plan_there (make_tuple elements place) h = refl
 plan_there (make_token inner place) h = refl
+plan_there (make_record type_name fields place) h = refl
+plan_there (modify_record target fields place) h = refl
+plan_there (is_of_type tested declared place) h = refl
+plan_there (is_of_named type_name tested place) h = refl
+plan_there (is_of_basic basic tested place) h = refl
 plan_there (create class class_place no_exprs place) h = refl
 plan_there (create class class_place (one_expr argument arguments) place) h = told-none _ h
 plan_there (apply head arguments place) h = refl
 plan_there (subsequence target first last place) h = refl
+plan_there (select target name name_place place) h = refl
 plan_there (select_part target number place) h = refl
 plan_there (let_in definitions body place) h = refl
 plan_there (let_be bind condition body place) h = refl
@@ -271,15 +302,20 @@ plan_there (for_all binds condition place) h = refl
 plan_there (exists_some binds condition place) h = refl
 plan_there (exists_one bind condition place) h = refl
 plan_there (iota_of bind condition place) h = refl
-plan_there (select target name name_place place) h = told-behind (first_unbuilt false target) place h
-plan_there (select_of_class target class class_place name name_place place) h = told-behind (first_unbuilt false target) place h
+plan_there (select_of_class target class class_place name name_place place) h = told-behind (unbuilt_in_expr target) place h
 plan_there tree h = told-none _ h
 
-none_typed : (ds : DefinedTrees) → unbuilt_in_defined ds ≡ None → are_untyped ds ≡ true
-none_typed no_defined h = refl
-none_typed (one_defined pattern None value ds) h = none_typed ds (behind-none _ _ (behind-none _ _ h))
-none_typed (one_defined pattern (Some declared) value ds) h = told-behind (unbuilt_in_pattern pattern) (type_place declared) h
+-- ---- what prints
 
-pub no_types : (tree : ExprTree) → IsBuiltExpr tree → are_untyped (definitions_of tree) ≡ true
-no_types (let_in definitions body place) h = none_typed definitions (first-none _ _ h)
-no_types tree h = refl
+is_not : (b : Bool) (place : Place) → unless (not b) place ≡ None → b ≡ false
+is_not false place h = refl
+is_not true place h = told-none place h
+
+no_print : (head : ExprTree) → print_place head ≡ None → selects_print head ≡ false
+no_print (select target name name_place place) h = is_not (is_same_name name print || is_same_name name println) place h
+no_print head h = refl
+
+pub nothing_printed : (tree : ExprTree) → IsBuiltExpr tree → prints tree ≡ false
+nothing_printed (apply head no_exprs place) h = refl
+nothing_printed (apply head (one_expr argument arguments) place) h = no_print head (first-none _ _ (behind-none _ _ h))
+nothing_printed tree h = refl

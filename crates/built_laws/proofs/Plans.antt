@@ -1,15 +1,16 @@
 -- What does nothing is undefined.
-use Rattle.std.proofs.Common.{◌≡◌, pos, Bool, true, false, List, [], ◌∷◌, Option, Some, None, refl, true≢false}
-use Rattle.vdm_kinds.specs.declared.basic_type.BasicType.TheVariants.{Bool as Truth, Nat, Nat1, Int, Char, Token}
+use Rattle.std.proofs.Common.{◌≡◌, Bool, true, false, not, [], ◌∷◌, refl, true≢false}
+use Rattle.vdm_kinds.specs.NameList.{io}
 use Rattle.vdm_kinds.specs.declared.place.Place.{Place}
 use Rattle.vdm_kinds.specs.declared.run_fault.RunFault.TheVariants.{TypeFault, Undefined}
-use Rattle.abstract_syntax.specs.Types.{TypeTree, basic_type}
-use Rattle.abstract_syntax.specs.Values.{ValueTree, boolean, number, character}
+use Rattle.abstract_syntax.specs.Values.{ValueTree}
 use Rattle.abstract_syntax.specs.Expressions.{
   ExprTree,
   literal,
   named,
+  qualified,
   undefined,
+  result_value,
   bracketed,
   prefixed,
   joined,
@@ -23,9 +24,15 @@ use Rattle.abstract_syntax.specs.Expressions.{
   sequence_comprehension,
   make_tuple,
   make_token,
+  make_record,
+  modify_record,
+  is_of_type,
+  is_of_named,
+  is_of_basic,
   create,
   apply,
   subsequence,
+  select,
   select_part,
   let_in,
   let_be,
@@ -41,27 +48,31 @@ use Rattle.abstract_syntax.specs.Expressions.{
   expr_place,
 }
 use Rattle.abstract_syntax.specs.Statements.{TargetTree, variable, variable_of_class, StmtTree, assign, call, block, returns, stmt_place}
-use Rattle.abstract_syntax.specs.Classes.{SpecTree}
+use Rattle.abstract_syntax.specs.Classes.{SpecTree, is_same_name}
 use Rattle.node_meaning.specs.Envs.{Locals, Here}
 use Rattle.node_meaning.specs.Expressions.{expr_plan}
 use Rattle.node_meaning.specs.Needs.{Setting}
 use Rattle.node_meaning.specs.Statements.{assigned, stmt_plan}
 use Rattle.node_meaning.specs.TaskPlans.{bare_call}
 use Rattle.node_meaning.specs.Tasks.{fault}
-use Rattle.node_meaning.specs.Types.{fits}
-use Rattle.text_phases.specs.Built.{unbuilt_in_type}
 use Rattle.built_laws.specs.Meant.{has_plan}
+use Rattle.built_laws.proofs.OfIo.{io_undefined}
 use Rattle.built_laws.specs.MeantStmts.{does_something, is_whole_variable, is_application}
-use Rattle.built_laws.proofs.Nothing.{told-none}
 
 not_so : {A : Type 0} → true ≡ false → A
 not_so h = absurd (true≢false h)
+
+not_false : (b : Bool) → not b ≡ false → b ≡ true
+not_false true h = refl
+not_false false h = not_so h
 
 pub no_plan : (setting : Setting) (here : Here) (locals : Locals) (tree : ExprTree) → has_plan tree ≡ false
     → expr_plan setting here locals tree ≡ fault Undefined (expr_place tree)
 no_plan setting here locals (literal value place) h = not_so h
 no_plan setting here locals (named name place) h = not_so h
+no_plan setting here locals (qualified class name name_place place) h = io_undefined setting here locals class name place (not_false (is_same_name class io) h)
 no_plan setting here locals (undefined place) h = not_so h
+no_plan setting here locals (result_value place) h = not_so h
 no_plan setting here locals (bracketed inner place) h = not_so h
 no_plan setting here locals (prefixed sign operand place) h = not_so h
 no_plan setting here locals (joined left sign right place) h = not_so h
@@ -75,10 +86,16 @@ no_plan setting here locals (sequence_enumeration items place) h = not_so h
 no_plan setting here locals (sequence_comprehension item pattern set condition place) h = not_so h
 no_plan setting here locals (make_tuple elements place) h = not_so h
 no_plan setting here locals (make_token inner place) h = not_so h
+no_plan setting here locals (make_record type_name fields place) h = not_so h
+no_plan setting here locals (modify_record target fields place) h = not_so h
+no_plan setting here locals (is_of_type tested declared place) h = not_so h
+no_plan setting here locals (is_of_named type_name tested place) h = not_so h
+no_plan setting here locals (is_of_basic basic tested place) h = not_so h
 no_plan setting here locals (create class class_place no_exprs place) h = not_so h
 no_plan setting here locals (create class class_place (one_expr argument arguments) place) h = refl
 no_plan setting here locals (apply head arguments place) h = not_so h
 no_plan setting here locals (subsequence target first last place) h = not_so h
+no_plan setting here locals (select target name name_place place) h = not_so h
 no_plan setting here locals (select_part target n place) h = not_so h
 no_plan setting here locals (let_in definitions body place) h = not_so h
 no_plan setting here locals (let_be bind condition body place) h = not_so h
@@ -109,23 +126,3 @@ pub not_called : (setting : Setting) (here : Here) (locals : Locals) (tree : Exp
     → bare_call setting here locals tree ≡ fault TypeFault (expr_place tree)
 not_called setting here locals (apply head arguments place) h = not_so h
 not_called setting here locals tree h = refl
-
--- ---- types
-
-pub takes_some : (declared : TypeTree) → unbuilt_in_type declared ≡ None → (v : ValueTree) × (fits declared v ≡ true)
-takes_some (basic_type Truth place) h = (boolean true, refl)
-takes_some (basic_type Nat place) h = (number (pos 0), refl)
-takes_some (basic_type Nat1 place) h = (number (pos 1), refl)
-takes_some (basic_type Int place) h = (number (pos 0), refl)
-takes_some (basic_type Char place) h = (character 97, refl)
-takes_some (basic_type Token place) h = told-none _ h
-takes_some declared h = told-none _ h
-
-pub takes_none : (declared : TypeTree) (place : Place) (v : ValueTree) → unbuilt_in_type declared ≡ Some place → fits declared v ≡ false
-takes_none (basic_type Truth at) place v h = absurd (cc)
-takes_none (basic_type Nat at) place v h = absurd (cc)
-takes_none (basic_type Nat1 at) place v h = absurd (cc)
-takes_none (basic_type Int at) place v h = absurd (cc)
-takes_none (basic_type Char at) place v h = absurd (cc)
-takes_none (basic_type Token at) place v h = refl
-takes_none declared place v h = refl

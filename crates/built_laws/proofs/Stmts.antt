@@ -1,12 +1,12 @@
 -- Statements, bodies and initial values that are built have a meaning.
-use Rattle.std.proofs.Common.{◌≡◌, ℕ, zero, suc, true, not, ◌&&◌, List, [], ◌∷◌, Option, Some, None, refl}
+use Rattle.std.proofs.Common.{◌≡◌, ℕ, zero, suc, not, ◌&&◌, [], ◌∷◌, Option, Some, None, refl}
 use Rattle.vdm_kinds.specs.declared.name.Name.{Name}
 use Rattle.vdm_kinds.specs.declared.place.Place.{Place}
 use Rattle.abstract_syntax.specs.Types.{TypeTree}
 use Rattle.abstract_syntax.specs.Expressions.{ExprTree, apply}
 use Rattle.abstract_syntax.specs.Statements.{variable, variable_of_class, StmtTree, StmtTrees, assign, call, block, returns, no_stmts, one_stmt}
 use Rattle.abstract_syntax.specs.Classes.{VariableTree, Body, written, not_yet_specified, subclass_responsibility, OperationTree}
-use Rattle.text_phases.specs.Built.{unbuilt_in_stmt, unbuilt_in_stmts, unbuilt_in_return, unbuilt_to_return, unbuilt_in_body, lacks_body, unless, is_public, is_constructor, is_same_place, unbuilt_in_type, unbuilt_in_head, unbuilt_behind_head, unbuilt_in_operation, lacks_initial, unbuilt_in_initial, unbuilt_in_variable, IsBuiltExpr}
+use Rattle.text_phases.specs.Built.{unbuilt_in_stmt, unbuilt_in_stmts, unbuilt_in_return, unbuilt_to_return, unbuilt_in_body, lacks_body, unless, is_public, is_constructor, is_same_place, unbuilt_in_head, unbuilt_behind_head, unbuilt_in_operation, lacks_initial, unbuilt_if_given, unbuilt_in_variable}
 use Rattle.built_laws.specs.Meant.{Each, IsMeant}
 use Rattle.built_laws.specs.MeantStmts.{statements_in, IsMeantStmt, IsMeantBody}
 use Rattle.built_laws.proofs.Exprs.{expr_meant}
@@ -67,7 +67,7 @@ operation_meant levels class o h =
 
 -- ---- initial values
 
-value_meant : (levels : ℕ) (initial : Option ExprTree) (place : Place) → lacks_initial initial place ≡ None → unbuilt_in_initial initial ≡ None
+value_meant : (levels : ℕ) (initial : Option ExprTree) (place : Place) → lacks_initial initial place ≡ None → unbuilt_if_given initial ≡ None
     → (value : ExprTree) × (initial ≡ Some value) × IsMeant levels value
 value_meant levels None place there h = told-none _ there
 value_meant levels (Some value) place there h = (value, refl, expr_meant levels value h)
@@ -79,4 +79,4 @@ variable_meant levels v h =
     let lacks = lacks_initial v.initial v.place in
     let behind = behind-none begins _ h in
     value_meant levels v.initial v.place (first-none lacks _ behind)
-    (behind-none (unbuilt_in_type v.declared) _ (behind-none lacks _ behind))
+    (behind-none lacks _ behind)

@@ -1,3 +1,4 @@
 pub mod Parts
 pub mod Meant
 pub mod MeantStmts
+pub mod MeantClasses

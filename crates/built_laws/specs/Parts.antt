@@ -5,6 +5,7 @@ use Rattle.abstract_syntax.specs.Expressions.{
   ExprTrees,
   MaybeExpr,
   MapletTrees,
+  FieldValueTrees,
   DefinedTrees,
   BranchTrees,
   CaseTrees,
@@ -12,7 +13,9 @@ use Rattle.abstract_syntax.specs.Expressions.{
   BindTrees,
   literal,
   named,
+  qualified,
   undefined,
+  result_value,
   bracketed,
   prefixed,
   joined,
@@ -26,9 +29,15 @@ use Rattle.abstract_syntax.specs.Expressions.{
   sequence_comprehension,
   make_tuple,
   make_token,
+  make_record,
+  modify_record,
+  is_of_type,
+  is_of_named,
+  is_of_basic,
   create,
   apply,
   subsequence,
+  select,
   select_part,
   let_in,
   let_be,
@@ -39,13 +48,14 @@ use Rattle.abstract_syntax.specs.Expressions.{
   exists_some,
   exists_one,
   iota_of,
-  select,
   no_exprs,
   one_expr,
   left_out,
   given_expr,
   no_maplets,
   one_maplet,
+  no_field_values,
+  one_field_value,
   no_defined,
   one_defined,
   no_branches,
@@ -72,6 +82,10 @@ abbrev pub maplets_in : MapletTrees → List ExprTree
 maplets_in no_maplets = []
 maplets_in (one_maplet key value pairs) = key ∷ value ∷ maplets_in pairs
 
+abbrev pub field_values_in : FieldValueTrees → List ExprTree
+field_values_in no_field_values = []
+field_values_in (one_field_value name name_place value fields) = value ∷ field_values_in fields
+
 abbrev pub definitions_in : DefinedTrees → List ExprTree
 definitions_in no_defined = []
 definitions_in (one_defined pattern declared value definitions) = given_in pattern ++ (value ∷ definitions_in definitions)
@@ -93,15 +107,12 @@ binds_in (one_bind bind binds) = bind_parts bind ++ binds_in binds
 
 -- ---- all kinds that have a meaning
 
--- of a selection that is called what it selects from is evaluated, and not the selection
-abbrev pub head_in : ExprTree → ExprTree
-head_in (select target name name_place place) = target
-head_in head = head
-
 abbrev pub parts : ExprTree → List ExprTree
 parts (literal value place) = []
 parts (named name place) = []
+parts (qualified class name name_place place) = []
 parts (undefined place) = []
+parts (result_value place) = []
 parts (bracketed inner place) = inner ∷ []
 parts (prefixed sign operand place) = operand ∷ []
 parts (joined left sign right place) = left ∷ right ∷ []
@@ -115,9 +126,15 @@ parts (sequence_enumeration items place) = exprs_in items
 parts (sequence_comprehension item pattern set condition place) = item ∷ (given_in pattern ++ (set ∷ maybe_in condition))
 parts (make_tuple elements place) = exprs_in elements
 parts (make_token inner place) = inner ∷ []
+parts (make_record type_name fields place) = exprs_in fields
+parts (modify_record target fields place) = target ∷ field_values_in fields
+parts (is_of_type tested declared place) = tested ∷ []
+parts (is_of_named type_name tested place) = tested ∷ []
+parts (is_of_basic basic tested place) = tested ∷ []
 parts (create class class_place arguments place) = exprs_in arguments
-parts (apply head arguments place) = head_in head ∷ exprs_in arguments
+parts (apply head arguments place) = head ∷ exprs_in arguments
 parts (subsequence target first last place) = target ∷ first ∷ last ∷ []
+parts (select target name name_place place) = target ∷ []
 parts (select_part target number place) = target ∷ []
 parts (let_in definitions body place) = definitions_in definitions ++ (body ∷ [])
 parts (let_be bind condition body place) = bind_parts bind ++ (maybe_in condition ++ (body ∷ []))

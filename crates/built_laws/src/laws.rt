@@ -1,27 +1,29 @@
 // What is built has a meaning: no node of it meets what stands for forms without one. Each law is the contract of a function that does
 // nothing.
 
-ghost use Rattle.std.specs.Prelude.{◌≡◌, ℕ, true, false, Some, None};
+ghost use Rattle.std.specs.Prelude.{◌≡◌, ℕ, false, Option, Some, None};
 ghost use Rattle.vdm_kinds.specs.declared.name.Name.{Name};
 ghost use Rattle.vdm_kinds.specs.declared.place.Place.{Place};
 ghost use Rattle.vdm_kinds.specs.declared.run_fault.RunFault.TheVariants.{TypeFault, Undefined};
 ghost use Rattle.abstract_syntax.specs.Values.{ValueTree};
 ghost use Rattle.abstract_syntax.specs.Types.{TypeTree};
-ghost use Rattle.abstract_syntax.specs.Expressions.{ExprTree, PatternTree, DefinedTrees, one_defined, expr_place};
+ghost use Rattle.abstract_syntax.specs.Expressions.{ExprTree, expr_place};
 ghost use Rattle.abstract_syntax.specs.Statements.{TargetTree, StmtTree, stmt_place};
-ghost use Rattle.abstract_syntax.specs.Classes.{VariableTree, OperationTree, SpecTree};
+ghost use Rattle.abstract_syntax.specs.Classes.{VariableTree, FunctionTree, OperationTree, SpecTree};
+ghost use Rattle.type_meaning.specs.Tests.{Fitting, decided};
 ghost use Rattle.node_meaning.specs.Envs.{Locals, Here};
-ghost use Rattle.node_meaning.specs.Expressions.{defined, expr_plan};
+ghost use Rattle.node_meaning.specs.Fitting.{fitting_in};
+ghost use Rattle.node_meaning.specs.Expressions.{expr_plan};
 ghost use Rattle.node_meaning.specs.Needs.{Setting};
 ghost use Rattle.node_meaning.specs.Statements.{assigned, stmt_plan};
 ghost use Rattle.node_meaning.specs.TaskPlans.{bare_call};
 ghost use Rattle.node_meaning.specs.Tasks.{fault};
-ghost use Rattle.node_meaning.specs.Types.{fits};
-ghost use Rattle.text_phases.specs.Built.{unbuilt_in_expr, unbuilt_in_operation, unbuilt_in_type, unbuilt_in_variable};
+ghost use Rattle.text_phases.specs.Built.{unbuilt_in_expr, unbuilt_in_function, unbuilt_in_operation, unbuilt_in_variable, unbuilt_in_spec};
 ghost use Rattle.built_laws.specs.Meant.{has_plan, IsMeant};
+ghost use Rattle.built_laws.specs.MeantClasses.{IsMeantFunction, IsMeantSpec};
 ghost use Rattle.built_laws.specs.MeantStmts.{does_something, is_whole_variable, is_application, IsMeantBody};
 
-/// Each node of a built expression has a meaning, however deep one looks.
+/// Each node of a built expression has a meaning, however deep one looks, and none asks an object to print.
 pub fn built_expressions_have_meaning()
     ensures { (levels : ℕ) (tree : ExprTree) → unbuilt_in_expr tree ≡ None → IsMeant levels tree }
 {}
@@ -37,19 +39,27 @@ pub fn built_variables_have_meaning()
         → (value : ExprTree) × (v.initial ≡ Some value) × IsMeant levels value }
 {}
 
-/// A built type takes some value, and any other takes none.
-pub fn built_types_take_values()
-    ensures some { (declared : TypeTree) → unbuilt_in_type declared ≡ None → (v : ValueTree) × (fits declared v ≡ true) }
-    ensures none { (declared : TypeTree) (place : Place) (v : ValueTree) → unbuilt_in_type declared ≡ Some place → fits declared v ≡ false }
+/// So has what is evaluated of a built function: its patterns, its body, and its conditions.
+pub fn built_functions_have_meaning()
+    ensures { (levels : ℕ) (f : FunctionTree) → unbuilt_in_function f ≡ None → IsMeantFunction levels f }
+{}
+
+/// So has each definition of a built specification, in whichever class. It has no types with invariants, no threads and no
+/// synchronisation.
+pub fn built_specifications_have_meaning()
+    ensures { (levels : ℕ) (spec : SpecTree) → unbuilt_in_spec spec ≡ None → IsMeantSpec levels spec }
+{}
+
+/// In a built specification a test of a value against a type asks for no invariant: it is decided, and never undefined.
+pub fn built_types_are_decided()
+    ensures { (spec : SpecTree) → unbuilt_in_spec spec ≡ None → (scope : Option Name) (t : TypeTree) (v : ValueTree)
+        → (f : Fitting) × (fitting_in spec scope t v ≡ decided f) }
 {}
 
 /// What has no meaning is a fault at its place.
 pub fn others_are_undefined()
     ensures expressions { (setting : Setting) (here : Here) (locals : Locals) (tree : ExprTree) → has_plan tree ≡ false
         → expr_plan setting here locals tree ≡ fault Undefined (expr_place tree) }
-    ensures definitions { (spec : SpecTree) (here : Here) (place : Place) (count : ℕ) (pattern : PatternTree) (declared : TypeTree) (tree : ExprTree)
-        (more : DefinedTrees) (body : ExprTree) (locals : Locals)
-        → defined spec here place count (one_defined pattern (Some declared) tree more) body locals ≡ fault Undefined place }
     ensures statements { (spec : SpecTree) (here : Here) (locals : Locals) (statement : StmtTree) → does_something statement ≡ false
         → stmt_plan spec here locals statement ≡ fault Undefined (stmt_place statement) }
     ensures targets { (spec : SpecTree) (here : Here) (target : TargetTree) (place : Place) (v : ValueTree) (locals : Locals)

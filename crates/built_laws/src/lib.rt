@@ -4,6 +4,7 @@
 mod laws;
 
 pub use laws::{
-    built_bodies_have_meaning, built_expressions_have_meaning, built_types_take_values,
-    built_variables_have_meaning, others_are_undefined,
+    built_bodies_have_meaning, built_expressions_have_meaning, built_functions_have_meaning,
+    built_specifications_have_meaning, built_types_are_decided, built_variables_have_meaning,
+    others_are_undefined,
 };

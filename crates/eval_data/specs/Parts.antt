@@ -1,18 +1,28 @@
 -- What the evaluator keeps, in the words of the meaning.
-use Rattle.std.specs.Prelude.{ℕ, List, [], map, drop, get_or, option_map, Box}
+use Rattle.std.specs.Prelude.{ℕ, List, [], map, drop, get_or, Option, option_map, Box}
 use Rattle.std.specs.Borrow.{Bor}
 use Rattle.std.specs.declared.alloc.Global.{Global}
+use Rattle.vdm_kinds.specs.declared.place.Place.{Place}
+use Rattle.abstract_syntax.specs.Types.{TypeTree, basic_type, named_type}
 use Rattle.abstract_syntax.specs.Values.{ValueTree}
 use Rattle.abstract_syntax.specs.Expressions.{ExprTree, ExprTrees, no_exprs, one_expr, PatternTree}
-use Rattle.expr_tree.specs.View.{boxed_view, maybe_view, expr_trees, views_of, maplet_view, maplet_trees, pattern_view}
+use Rattle.type_tree.specs.TypeView.{type_view}
+use Rattle.type_tree.specs.declared.type_expr.TypeExpr.{TypeExpr}
+use Rattle.expr_tree.specs.View.{boxed_view, maybe_view, expr_trees, views_of, maplet_view, maplet_trees, field_value_view, field_value_trees, pattern_view}
 use Rattle.expr_tree.specs.declared.expr.Expr.{Expr}
 use Rattle.expr_tree.specs.declared.pattern.Pattern.{Pattern}
+use Rattle.vdm_tree.specs.ClassView.{function_view}
+use Rattle.node_meaning.specs.Functions.{Applying as MeantApplying}
+use Rattle.node_meaning.specs.Records.{field_exprs}
 use Rattle.node_meaning.specs.Calls.{Wanted as MeantWanted, a_value, no_value}
 use Rattle.node_meaning.specs.Choosing.{Chooser as MeantChooser, collects, for_each, for_some, for_one, the_one, takes_first, Search as MeantSearch}
 use Rattle.node_meaning.specs.Envs.{Locals, Held as MeantHeld, Here as MeantHere}
 use Rattle.node_meaning.specs.Matching.{exprs_of}
 use Rattle.node_meaning.specs.Strict.{Strict as MeantStrict, one_operand, two_operands, a_set, a_sequence, a_tuple, a_map, a_token, a_subsequence, a_component, maplet_exprs}
 use Rattle.node_meaning.specs.Tasks.{Flow as MeantFlow, gave, next, returned, exited, Need as MeantNeed, reads, calls, creates, prints, tells_time}
+use Rattle.eval_data.specs.declared.applying.Applying.{Applying}
+use Rattle.eval_data.specs.declared.asked_type.AskedType.{AskedType}
+use Rattle.eval_data.specs.declared.asked_type.AskedType.TheVariants.{Written, Named, Basic}
 use Rattle.eval_data.specs.declared.chooser.Chooser.{Chooser}
 use Rattle.eval_data.specs.declared.chooser.Chooser.TheVariants.{Collects, ForEach, ForSome, ForOne, TheOne, TakesFirst}
 use Rattle.eval_data.specs.declared.chooser.Elements.{Elements}
@@ -24,7 +34,7 @@ use Rattle.eval_data.specs.declared.here.Here.{Here}
 use Rattle.eval_data.specs.declared.need.Need.{Need}
 use Rattle.eval_data.specs.declared.need.Need.TheVariants.{Read, Call, New, Print, Time}
 use Rattle.eval_data.specs.declared.parts.Parts.{Parts}
-use Rattle.eval_data.specs.declared.parts.Parts.TheVariants.{None as NoParts, One, Two, Three, Items, Maplets, MapletValue, Brackets}
+use Rattle.eval_data.specs.declared.parts.Parts.TheVariants.{None as NoParts, One, Two, Three, Items, Maplets, MapletValue, Changes, Brackets}
 use Rattle.eval_data.specs.declared.search.Search.{Search}
 use Rattle.eval_data.specs.declared.search.Source.{Source}
 use Rattle.eval_data.specs.declared.strict.Strict.{Strict}
@@ -89,6 +99,7 @@ parts_of (Three a b c) = one_expr (boxed_view a.now) (one_expr (boxed_view b.now
 parts_of (Items items) = expr_trees (views_of items.now)
 parts_of (Maplets maplets) = maplet_exprs (maplet_trees (map maplet_view maplets.now))
 parts_of (MapletValue held maplets) = one_expr (boxed_view held.now) (maplet_exprs (maplet_trees (map maplet_view maplets.now)))
+parts_of (Changes changes) = field_exprs (field_value_trees (map field_value_view changes.now))
 parts_of (Brackets found from) = exprs_of (drop from (boxed_list found.items))
 
 -- ---- searches
@@ -128,3 +139,24 @@ source_of source = (boxed_view source.set.now, source.count)
 
 abbrev pub sources_from : List Source → ℕ → List (ExprTree × ℕ)
 sources_from sources from = drop from (map source_of sources)
+
+-- ---- functions and types
+
+abbrev pub applying_of : Applying → MeantApplying
+applying_of a = record {
+  class = a.class;
+  function = function_view a.function.now;
+  place = a.place;
+  depth = a.depth;
+  outer = a.outer.items;
+}
+
+-- a type, where one is given
+abbrev pub maybe_type : Option (Bor TypeExpr) → Option TypeTree
+maybe_type = option_map (λ (t : Bor TypeExpr). type_view t.now)
+
+-- a type for which a node at the place asks
+abbrev pub asked_type : Place → AskedType → TypeTree
+asked_type place (Written t) = type_view t.now
+asked_type place (Named t) = named_type t place
+asked_type place (Basic basic) = basic_type basic place

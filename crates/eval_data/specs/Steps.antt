@@ -5,27 +5,30 @@ use Rattle.vdm_kinds.specs.declared.place.Place.{Place}
 use Rattle.abstract_syntax.specs.Classes.{SpecTree}
 use Rattle.abstract_syntax.specs.Expressions.{ExprTree, undefined, PatternTree, no_exprs, one_expr}
 use Rattle.abstract_syntax.specs.Values.{ValueTree}
-use Rattle.expr_tree.specs.View.{view_of, boxed_view, maybe_view, expr_trees, views_of, pattern_view, pattern_views, pattern_trees, branch_view, branch_trees, case_view, case_trees, defined_view, defined_trees}
+use Rattle.expr_tree.specs.View.{view_of, boxed_view, maybe_view, expr_trees, views_of, pattern_view, pattern_views, pattern_trees, branch_view, branch_trees, case_view, case_trees, defined_view, defined_trees, field_value_view, field_value_trees}
 use Rattle.plans.specs.Plans.{finish, become, part}
 use Rattle.node_meaning.specs.Calls.{given}
 use Rattle.node_meaning.specs.Choosing.{by_truth, next_choice, choose, with_elements, sets_of, behind_sets, search_with}
 use Rattle.node_meaning.specs.Envs.{Locals, Here as MeantHere, outside, at}
-use Rattle.node_meaning.specs.Expressions.{called_through, right_truth, truth, branch, branches, within, no_match, defined, patterns_met, cases_met}
+use Rattle.node_meaning.specs.Fitting.{typed_maybe}
+use Rattle.node_meaning.specs.Functions.{applied, bound, pre_decided, post_decided, result_given, value_given}
+use Rattle.node_meaning.specs.Records.{field_names, record_changed, record_made}
+use Rattle.node_meaning.specs.Expressions.{called_through, no_such_call, selected, fit_value, right_truth, truth, branch, branches, within, no_match, defined, patterns_met, cases_met}
 use Rattle.node_meaning.specs.Matching.{on_truth, met, meets}
 use Rattle.node_meaning.specs.Needs.{Setting, asked}
 use Rattle.node_meaning.specs.Strict.{one_operand, two_operands, with_others, make}
 use Rattle.node_meaning.specs.Tasks.{expr_in, Flow as MeantFlow, Code, fault, value, with_value, cut_to}
 use Rattle.eval_data.specs.declared.collecting.Collecting.{Collecting}
 use Rattle.eval_data.specs.declared.collecting.Then.{Then}
-use Rattle.eval_data.specs.declared.collecting.Then.TheVariants.{Make, Meets, Searches, NextChoice}
+use Rattle.eval_data.specs.declared.collecting.Then.TheVariants.{Make, Meets, Searches, NextChoice, Applies, Binds, Record, Changes, NoSuchCall}
 use Rattle.eval_data.specs.declared.frame.After.{After as AfterNeed}
 use Rattle.eval_data.specs.declared.frame.After.TheVariants.{Value as ValueOf, Given}
 use Rattle.eval_data.specs.declared.frame.Frame.{Frame}
 use Rattle.eval_data.specs.declared.frame.Frame.TheVariants.{With, After, Cut}
 use Rattle.eval_data.specs.declared.frame.TruthUse.{TruthUse}
-use Rattle.eval_data.specs.declared.frame.TruthUse.TheVariants.{Branch, Left, Right, Choice}
+use Rattle.eval_data.specs.declared.frame.TruthUse.TheVariants.{Branch, Left, Right, Choice, Pre, Post}
 use Rattle.eval_data.specs.declared.frame.Use.{Use}
-use Rattle.eval_data.specs.declared.frame.Use.TheVariants.{Operand, RightOperand, Operator, Collect, Truth, CallThrough, Defined, Subject, Elements}
+use Rattle.eval_data.specs.declared.frame.Use.TheVariants.{Operand, RightOperand, Operator, Collect, Truth, CallThrough, Select, Asked, Defined, Result, ClassValue, Subject, Elements}
 use Rattle.eval_data.specs.declared.matching.Met.{Met}
 use Rattle.eval_data.specs.declared.matching.Met.TheVariants.{Definition, Case}
 use Rattle.eval_data.specs.declared.matching.MetCase.{MetCase}
@@ -33,7 +36,7 @@ use Rattle.eval_data.specs.declared.search.Search.{Search}
 use Rattle.eval_data.specs.declared.search.Sets.{Sets}
 use Rattle.eval_data.specs.declared.step.Step.{Step}
 use Rattle.eval_data.specs.declared.step.Step.TheVariants.{Finish, Fail, Part, Become, Need}
-use Rattle.eval_data.specs.Parts.{wanted_of, here_of, flow_of, need_of, strict_of, parts_of, chooser_of, patterns_at, search_of, first_choice, sources_from}
+use Rattle.eval_data.specs.Parts.{wanted_of, here_of, flow_of, need_of, strict_of, parts_of, chooser_of, patterns_at, search_of, first_choice, sources_from, applying_of, maybe_type, asked_type}
 
 -- ---- patterns
 
@@ -99,6 +102,11 @@ then_of spec (Make what) here place = make (strict_of what) place
 then_of spec (Meets v m) here place = met_with spec m place v
 then_of spec (Searches lists patterns chooser) here place = search_with spec here place (patterns_at patterns.items) (chooser_of chooser) lists.items
 then_of spec (NextChoice search) here place = next_choice (search_of search.value) (choose_behind spec search.value 0)
+then_of spec (Applies ref arguments) here place = applied spec ref place here.depth (expr_trees (views_of arguments.now))
+then_of spec (Binds a vs) here place = bound spec (applying_of a.value) vs
+then_of spec (Record t) here place = record_made spec here.scope t place
+then_of spec (Changes changes) here place = record_changed spec (field_names (field_value_trees (map field_value_view changes.now))) place
+then_of spec NoSuchCall here place = no_such_call place
 
 -- a value behind those that came
 abbrev pub collect : SpecTree → Collecting → ValueTree → Locals → Code
@@ -111,6 +119,8 @@ truth_use spec (Left here sign right) place = right_truth (here_of here) sign (b
 truth_use spec Right place = truth
 truth_use spec (Choice search) place =
     by_truth (search_of search.value) (first_choice search.value) search.value.done.items (choose_behind spec search.value 1)
+truth_use spec (Pre a) place = pre_decided spec (applying_of a.value)
+truth_use spec (Post a v) place = post_decided (applying_of a.value) v
 
 abbrev pub use_of : Setting → Use → Place → ValueTree → Locals → Code
 use_of setting (Operand operator) place = with_others outside place no_exprs [] (make (one_operand operator) place)
@@ -119,9 +129,14 @@ use_of setting (RightOperand here right operator) place =
 use_of setting (Operator operator left) place = with_others outside place no_exprs (left ∷ []) (make (two_operands operator) place)
 use_of setting (Collect c) place = collect setting.spec c.value
 use_of setting (Truth truth_for) place = on_truth place (truth_use setting.spec truth_for place)
-use_of setting (CallThrough scope name arguments wanted) place =
-    called_through setting scope name (expr_trees (views_of arguments.now)) place (wanted_of wanted)
-use_of setting (Defined here d) place = meets_with setting.spec (Definition here d) place
+use_of setting (CallThrough here name arguments dot wanted) place =
+    called_through setting (here_of here) name (expr_trees (views_of arguments.now)) dot place (wanted_of wanted)
+use_of setting (Select name) place = selected setting place name
+use_of setting (Asked scope t) place = fit_value setting.spec scope (asked_type place t) place
+use_of setting (Defined here declared d) place =
+    typed_maybe setting.spec (here_of here).scope (maybe_type declared) place (meets_with setting.spec (Definition here d) place)
+use_of setting (Result a) place = result_given setting.spec (applying_of a.value)
+use_of setting (ClassValue n) place = value_given setting.spec n.value.class (maybe_type n.value.declared) place n.value.outer.items
 use_of setting (Subject here cases others count) place =
     cases_met setting.spec (here_of here) place (case_trees (map case_view cases.now)) (maybe_view others.now) count
 use_of setting (Elements sets) place =

@@ -1,11 +1,14 @@
 // What is done with what comes of a part.
 
+use crate::applying::{Applying, Naming};
+use crate::asked_type::AskedType;
 use crate::collecting::Collecting;
 use crate::here::Here;
 use crate::matching::MetDefinition;
 use crate::search::{Search, Sets};
 use crate::wanted::Wanted;
 use expr_tree::{Branch, Case, Expr};
+use type_tree::TypeExpr;
 use vdm_kinds::{Name, Operator, Place, Sign};
 use vdm_values::Value;
 
@@ -20,6 +23,10 @@ pub enum TruthUse<'t> {
     Right,
     /// The first of the choices that are left fulfils the condition or does not.
     Choice(Box<Search<'t>>),
+    /// It is what `pre` says of the arguments of a function.
+    Pre(Box<Applying<'t>>),
+    /// It is what `post` says of the result of a function.
+    Post(Box<Applying<'t>>, Value),
 }
 
 /// What is done with a value.
@@ -35,10 +42,19 @@ pub enum Use<'t> {
     Collect(Box<Collecting<'t>>),
     /// It has to be a truth value.
     Truth(TruthUse<'t>),
-    /// It is the object on which the operation of this name is called, from a class or from none.
-    CallThrough(Option<Name>, Name, &'t [Expr], Wanted),
-    /// It is what a definition gives.
-    Defined(Here<'t>, MetDefinition<'t>),
+    /// It is the value whose member of this name is applied: an operation of an object, or a field of a record. The first place is
+    /// that of the selection.
+    CallThrough(Here<'t>, Name, &'t [Expr], Place, Wanted),
+    /// It is the value whose member of this name is selected.
+    Select(Name),
+    /// It is asked whether it fits a type, from a class or from none.
+    Asked(Option<Name>, AskedType<'t>),
+    /// It is what a definition gives, with a type where one is given.
+    Defined(Here<'t>, Option<&'t TypeExpr>, MetDefinition<'t>),
+    /// It is the result of a function.
+    Result(Box<Applying<'t>>),
+    /// It is a class value.
+    ClassValue(Box<Naming<'t>>),
     /// It is the subject of alternatives; so many locals stand before those that these bind.
     Subject(Here<'t>, &'t [Case], &'t Option<Box<Expr>>, usize),
     /// It has to be the set of a bind.

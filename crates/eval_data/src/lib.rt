@@ -1,6 +1,8 @@
 //! Steps of the evaluation of expressions as data, each a plan of the meaning.
 #![tactic(auto)]
 
+mod applying;
+mod asked_type;
 mod chooser;
 mod collecting;
 mod flow;
@@ -14,6 +16,8 @@ mod step;
 mod strict;
 mod wanted;
 
+pub use applying::{Applying, Naming};
+pub use asked_type::AskedType;
 pub use chooser::{Chooser, Elements};
 pub use collecting::{Collecting, Then};
 pub use flow::Flow;

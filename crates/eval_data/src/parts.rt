@@ -1,6 +1,6 @@
 // Expressions whose values are still to come.
 
-use expr_tree::{Expr, Maplet};
+use expr_tree::{Expr, FieldValue, Maplet};
 
 /// Expressions whose values are still to come, in order.
 #[derive(Drop)]
@@ -13,6 +13,8 @@ pub enum Parts<'t> {
     Maplets(&'t [Maplet]),
     /// The value of a key, and the pairs behind it.
     MapletValue(&'t Box<Expr>, &'t [Maplet]),
+    /// The new values of fields.
+    Changes(&'t [FieldValue]),
     /// The expressions in brackets in patterns, from a number on.
     Brackets(Vec<&'t Box<Expr>>, usize),
 }

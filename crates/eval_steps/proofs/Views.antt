@@ -1,10 +1,10 @@
 -- The pure tree of kinds of expressions.
 use Rattle.std.proofs.Common.{◌≡◌, ap, ◌∙◌, sym, map, rules}
-use Rattle.abstract_syntax.specs.Expressions.{def_in, if_else, sequence_comprehension, set_range, subsequence}
-use Rattle.expr_tree.specs.View.{branch_trees, branch_view, maybe_view, pattern_view, view_of}
+use Rattle.abstract_syntax.specs.Expressions.{def_in, if_else, modify_record, sequence_comprehension, set_range, subsequence}
+use Rattle.expr_tree.specs.View.{branch_trees, branch_view, field_value_trees, field_value_view, maybe_view, pattern_view, view_of}
 use Rattle.expr_tree.specs.declared.expr.Expr as rust
 use Rattle.expr_tree.specs.declared.expr.Expr.{the_lemmas}
-use Rattle.expr_tree.specs.declared.expr.Expr.TheVariants.{rolls-SetRange, rolls-SequenceComprehension, rolls-Subsequence, rolls-DefIn, rolls-IfElse}
+use Rattle.expr_tree.specs.declared.expr.Expr.TheVariants.{rolls-SetRange, rolls-SequenceComprehension, rolls-Subsequence, rolls-DefIn, rolls-IfElse, rolls-ModifyRecord}
 
 pub view-SetRange : (first : _) (last : _) (place : _) → view_of (rust.SetRange first last place) ≡ set_range (view_of first.value) (view_of last.value) place
 view-SetRange first last place = ap view_of (sym (rolls-SetRange first last place)) ∙ search (rules, the_lemmas)
@@ -20,3 +20,6 @@ view-DefIn pattern value body place = ap view_of (sym (rolls-DefIn pattern value
 
 pub view-IfElse : (condition : _) (value : _) (elseifs : _) (otherwise : _) (place : _) → view_of (rust.IfElse condition value elseifs otherwise place) ≡ if_else (view_of condition.value) (view_of value.value) (branch_trees (map branch_view elseifs.items)) (view_of otherwise.value) place
 view-IfElse condition value elseifs otherwise place = ap view_of (sym (rolls-IfElse condition value elseifs otherwise place)) ∙ search (rules, the_lemmas)
+
+pub view-ModifyRecord : (target : _) (changes : _) (place : _) → view_of (rust.ModifyRecord target changes place) ≡ modify_record (view_of target.value) (field_value_trees (map field_value_view changes.items)) place
+view-ModifyRecord target changes place = ap view_of (sym (rolls-ModifyRecord target changes place)) ∙ search (rules, the_lemmas)

@@ -8,8 +8,11 @@ mod named;
 mod parts;
 mod plain;
 mod searched;
+mod selected;
+mod tested;
 mod then;
 mod uses;
 
-pub use dispatch::{bare_call, expression};
+pub use called::bare_call;
+pub use dispatch::expression;
 pub use then::then_of;

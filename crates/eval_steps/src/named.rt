@@ -14,25 +14,29 @@ ghost use Rattle.expr_topics.specs.declared.topic.Topic.TheVariants.{Names};
 
 use eval_data::{Here, Step};
 use expr_tree::Expr;
-use name_steps::name;
+use name_steps::{name, qualified, result_value};
 use spec_table::ClassTable;
 use std::alloc::Global;
 use vdm_kinds::{Name, OutOfMemory, RunFault};
 use vdm_values::Slot;
 
-/// What a name does that stands alone; so far no other of these has a meaning.
+/// What such a node does; so far the others of these have no meaning.
 pub(crate) fn named<'t>(
     alloc: Global,
     table: &'t ClassTable,
-    locals: &[(Name, Slot)],
+    locals: &mut Vec<(Name, Slot)>,
     here: Here<'t>,
     tree: &'t Expr,
 ) -> Result<Step<'t>, OutOfMemory>
     requires { topic_of (view_of tree.now) ≡ Names }
-    ensures { IfOk result (λ s. (asker : Asker) → code_of (set table.now asker) locals.now s ≡ expr_plan (set table.now asker) (here_of here.entry) locals.now (view_of tree.now)) }
+    ensures { IfOk result (λ s. (asker : Asker) → code_of (set table.now asker) locals.new.items s ≡ expr_plan (set table.now asker) (here_of here.entry) locals.old.items (view_of tree.now)) }
 {
     match tree {
         Expr::Name(found, place) => name(alloc, table, locals, here, *found, *place),
+        Expr::Qualified(class, found, _, place) => {
+            qualified(alloc, table, locals, here, *class, *found, *place)
+        }
+        Expr::Result(place) => result_value(alloc, locals.as_slice(), *place),
         _ => Ok(Step::Fail(RunFault::Undefined, tree.place())),
     }
 }

@@ -12,8 +12,10 @@ ghost use Rattle.eval_data.specs.Steps.{code_of};
 ghost use Rattle.eval_steps.specs.Settings.{set};
 ghost use Rattle.expr_topics.specs.declared.topic.Topic.TheVariants.{Parts};
 
-use eval_data::{Here, Step};
+use crate::tested::asked;
+use eval_data::{AskedType, Here, Step};
 use expr_tree::Expr;
+use record_steps::modify_record;
 use std::alloc::Global;
 use value_steps::{
     component, infix, map_enumeration, prefix, range, sequence_enumeration, set_enumeration,
@@ -21,7 +23,7 @@ use value_steps::{
 };
 use vdm_kinds::{OutOfMemory, RunFault};
 
-/// What such a node does. So far no record is changed, and nothing is tested by its type or class.
+/// What such a node does. So far nothing is tested by its class.
 pub(crate) fn parts<'t>(
     alloc: Global,
     here: Here<'t>,
@@ -45,6 +47,12 @@ pub(crate) fn parts<'t>(
         }
         Expr::MakeTuple(parts, place) => tuple_enumeration(alloc, here, parts.as_slice(), *place),
         Expr::MakeToken(inner, place) => token(alloc, here, inner, *place),
+        Expr::ModifyRecord(target, changes, place) => {
+            modify_record(alloc, here, target, changes.as_slice(), *place)
+        }
+        Expr::IsOfBasic(basic, tested, place) => {
+            Ok(asked(here, tested, AskedType::Basic(*basic), *place))
+        }
         Expr::Subsequence(target, from, to, place) => {
             subsequence(alloc, here, target, from, to, *place)
         }

@@ -9,15 +9,18 @@ ghost use Rattle.eval_steps.specs.Settings.{set};
 ghost use Rattle.value_steps.specs.Further.{gathered_code};
 
 use eval_data::{Collecting, Here, Step, Then, TruthUse, Use};
+use fit_steps::fit_answer;
+use function_steps::{applied, bound, post_decided, pre_decided, result_given, value_given};
 use match_steps::{definition_met, met_with, subject_met};
 use name_steps::called_through;
+use record_steps::{record_changed, record_made, selected};
 use search_steps::{choice_decided, elements, next_choice, searches};
 use spec_table::ClassTable;
 use std::alloc::Global;
 use value_steps::{
     Decided, Gathered, make, on_truth, operand, operators, right_operand, with_value,
 };
-use vdm_kinds::{Name, OutOfMemory, Place};
+use vdm_kinds::{Name, OutOfMemory, Place, RunFault};
 use vdm_values::{Slot, Value};
 
 /// What is done with the value; the place is that of a fault.
@@ -39,10 +42,19 @@ pub(crate) fn use_of<'t>(
         Use::Operator(operator, left) => operators(alloc, operator, place, left, value),
         Use::Collect(collecting) => collect(alloc, table, locals, collecting, value),
         Use::Truth(truth) => decide(alloc, table, locals, truth, place, value),
-        Use::CallThrough(scope, name, arguments, wanted) => {
-            called_through(alloc, table, scope, name, arguments, wanted, place, value)
+        Use::CallThrough(here, name, arguments, dot, wanted) => {
+            let gathered = called_through(
+                alloc, table, here, name, arguments, dot, wanted, place, value,
+            )?;
+            behind(alloc, table, locals, gathered)
         }
-        Use::Defined(here, met) => definition_met(alloc, table, locals, here, met, place, value),
+        Use::Select(name) => selected(alloc, table, name, place, value),
+        Use::Asked(scope, wanted) => fit_answer(alloc, table, scope, wanted, place, &value),
+        Use::Defined(here, declared, met) => {
+            definition_met(alloc, table, locals, here, declared, met, place, value)
+        }
+        Use::Result(applying) => result_given(alloc, table, locals, applying, value),
+        Use::ClassValue(naming) => value_given(alloc, table, locals, naming, place, value),
         Use::Subject(here, cases, others, count) => {
             subject_met(
                 alloc, table, locals, here, cases, others, count, place, value,
@@ -67,7 +79,7 @@ fn collect<'t>(
 }
 
 /// What is done with the values once all of them came.
-fn behind<'t>(
+pub(crate) fn behind<'t>(
     alloc: Global,
     table: &'t ClassTable,
     locals: &mut Vec<(Name, Slot)>,
@@ -104,6 +116,15 @@ fn all_came<'t>(
             )
         }
         Then::NextChoice(search) => next_choice(alloc, table, locals, search, values),
+        Then::Applies(op, arguments) => applied(
+            alloc, table, locals, op, place, here.depth, arguments, values,
+        ),
+        Then::Binds(applying, arguments) => {
+            bound(alloc, table, locals, applying, arguments, values)
+        }
+        Then::Record(name) => record_made(alloc, table, here.scope, name, place, values),
+        Then::Changes(changes) => record_changed(alloc, table, changes, place, values),
+        Then::NoSuchCall => Ok(Step::Fail(RunFault::TypeFault, place)),
     }
 }
 
@@ -121,5 +142,7 @@ fn decide<'t>(
     match on_truth(truth, place, value) {
         Decided::Known(step) => Ok(step),
         Decided::Chosen(search, b) => choice_decided(alloc, table, locals, search, b),
+        Decided::Pre(applying, b) => Ok(pre_decided(applying, b)),
+        Decided::Post(applying, result, b) => Ok(post_decided(locals, applying, result, b)),
     }
 }

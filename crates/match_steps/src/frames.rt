@@ -11,32 +11,37 @@ ghost use Rattle.spec_table.specs.Tables.{table_spec};
 use crate::alternatives::{first_case, others_of};
 use crate::meeting::meets;
 use eval_data::{Flow, Here, Met, MetDefinition, Step};
-use expr_tree::{Case, Expr};
+use expr_tree::{Case, Expr, TypeExpr};
+use fit_steps::maybe_fault;
 use spec_table::ClassTable;
 use std::alloc::Global;
 use vdm_kinds::{Name, OutOfMemory, Place};
 use vdm_values::{Slot, Value};
 
-/// The value that a definition gives meets its pattern.
+/// The value that a definition gives meets its pattern, where it fits the type.
 pub fn definition_met<'t>(
     alloc: Global,
     table: &ClassTable,
     locals: &mut Vec<(Name, Slot)>,
     here: Here<'t>,
+    declared: Option<&'t TypeExpr>,
     definition: MetDefinition<'t>,
     place: Place,
     value: Value,
 ) -> Result<Step<'t>, OutOfMemory>
-    ensures { IfOk result (λ s. (asker : Asker) → code_of (record { spec = table_spec table.now; asker = asker }) locals.new.items s ≡ use_of (record { spec = table_spec table.now; asker = asker }) (Defined here.entry definition.entry) place value locals.old.items) }
+    ensures { IfOk result (λ s. (asker : Asker) → code_of (record { spec = table_spec table.now; asker = asker }) locals.new.items s ≡ use_of (record { spec = table_spec table.now; asker = asker }) (Defined here.entry declared.entry definition.entry) place value locals.old.items) }
 {
-    meets(
-        alloc,
-        table,
-        locals,
-        Met::Definition(here, definition),
-        place,
-        value,
-    )
+    match maybe_fault(alloc, table, here.scope, declared, &value)? {
+        Some(kind) => Ok(Step::Fail(kind, place)),
+        None => meets(
+            alloc,
+            table,
+            locals,
+            Met::Definition(here, definition),
+            place,
+            value,
+        ),
+    }
 }
 
 /// The subject meets the patterns of the alternatives; so many locals stand before those that these bind.

@@ -13,7 +13,7 @@ mod trial;
 mod trying;
 
 pub use attempt::Attempt;
-pub use binding::{bound, bound_or, first_match};
+pub use binding::{bound, bound_or, first_match, push_shared};
 pub use frames::{cut, definition_met, subject_met};
 pub use meeting::{meets, met_with};
 pub use openings::{cases, def_in, let_in};

@@ -5,14 +5,15 @@ use Rattle.vdm_kinds.specs.declared.member.OpRef.{OpRef}
 use Rattle.vdm_kinds.specs.declared.operator.Operator.TheVariants.{LookUp}
 use Rattle.vdm_kinds.specs.declared.place.Place.{Place}
 use Rattle.vdm_kinds.specs.declared.run_fault.RunFault.TheVariants.{TypeFault, Undefined}
+use Rattle.abstract_syntax.specs.Values.{ValueTree}
 use Rattle.abstract_syntax.specs.Expressions.{ExprTree, no_exprs, one_expr}
 use Rattle.expr_tree.specs.View.{views_of, expr_trees}
 use Rattle.expr_tree.specs.declared.expr.Expr.{Expr}
 use Rattle.node_meaning.specs.Calls.{Wanted}
 use Rattle.node_meaning.specs.Envs.{Locals, Here}
-use Rattle.node_meaning.specs.Expressions.{arguments_of, looked_up, called_with, created_with}
+use Rattle.node_meaning.specs.Expressions.{arguments_of, looked_up, looked_up_in, called_with, created_with}
 use Rattle.node_meaning.specs.Needs.{Setting}
-use Rattle.node_meaning.specs.Strict.{strict, two_operands}
+use Rattle.node_meaning.specs.Strict.{collected, make, strict, two_operands}
 use Rattle.node_meaning.specs.Tasks.{fault}
 
 pub counted : (arguments : List Expr) → length arguments ≡ arguments_of (expr_trees (views_of arguments))
@@ -37,6 +38,21 @@ module _ (here : Here) (head : ExprTree) (place : Place) (locals : Locals) where
   looks_nothing_up [] other = refl
   looks_nothing_up (argument ∷ []) other = absurd (other refl)
   looks_nothing_up (argument ∷ (next ∷ others)) other = refl
+
+module _ (here : Here) (place : Place) (v : ValueTree) (locals : Locals) where
+  -- ... in a value that is there
+  pub looks_up_in : (arguments : List Expr) → length arguments ≡ 1 →
+      collected here place (expr_trees (views_of arguments)) (v ∷ []) (make (two_operands LookUp) place) locals ≡
+      looked_up_in here (expr_trees (views_of arguments)) place v locals
+  looks_up_in [] one = absurd (omega arith)
+  looks_up_in (argument ∷ []) one = refl
+  looks_up_in (argument ∷ (next ∷ others)) one = absurd (omega arith)
+
+  pub looks_nothing_up_in : (arguments : List Expr) → length arguments ≢ 1 →
+      fault TypeFault place ≡ looked_up_in here (expr_trees (views_of arguments)) place v locals
+  looks_nothing_up_in [] other = refl
+  looks_nothing_up_in (argument ∷ []) other = absurd (other refl)
+  looks_nothing_up_in (argument ∷ (next ∷ others)) other = refl
 
 -- nothing takes arguments so far
 module _ (setting : Setting) (place : Place) (locals : Locals) where

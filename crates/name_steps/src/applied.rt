@@ -5,15 +5,17 @@ ghost use Rattle.expr_tree.specs.View.{boxed_view, view_of};
 ghost use Rattle.name_steps.specs.Applied.{applied_tree, applied_view};
 
 use expr_tree::Expr;
-use vdm_kinds::Name;
+use vdm_kinds::{Name, Place};
 
 /// What is applied.
 #[derive(Clone, Copy)]
 pub(crate) enum Applied<'t> {
     /// A name.
     Name(Name),
-    /// The member of this name of the object that an expression gives.
-    Member(&'t Box<Expr>, Name),
+    /// What a name means in the class of another name, which stands first.
+    Qualified(Name, Name),
+    /// The member of this name of the value that an expression gives, selected at the place.
+    Member(&'t Box<Expr>, Name, Place),
     /// The value of any other expression.
     Value,
 }
@@ -30,7 +32,8 @@ fn applied_in(head: &Expr) -> Applied<'_>
 {
     match head {
         Expr::Name(name, _) => Applied::Name(*name),
-        Expr::Select(target, name, _, _) => Applied::Member(target, *name),
+        Expr::Qualified(class, name, _, _) => Applied::Qualified(*class, *name),
+        Expr::Select(target, name, _, dot) => Applied::Member(target, *name, *dot),
         _ => Applied::Value,
     }
 }

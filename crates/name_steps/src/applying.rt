@@ -5,23 +5,26 @@ ghost use Rattle.vdm_kinds.specs.declared.operator.Operator.TheVariants.{LookUp}
 ghost use Rattle.expr_tree.specs.View.{view_of, boxed_view, expr_trees, views_of};
 ghost use Rattle.spec_table.specs.Tables.{table_spec};
 ghost use Rattle.node_meaning.specs.Envs.{Locals, local_named};
-ghost use Rattle.node_meaning.specs.Expressions.{looked_up, called_or_looked_up, name_applied, application};
+ghost use Rattle.node_meaning.specs.Expressions.{looked_up, called_or_looked_up, applied_or_called, name_applied, qualified_applied, application};
+ghost use Rattle.node_meaning.specs.Functions.{application_of};
 ghost use Rattle.node_meaning.specs.Needs.{Setting};
 ghost use Rattle.node_meaning.specs.Strict.{two_operands, with_others, make};
 ghost use Rattle.node_meaning.specs.TaskPlans.{bare_call};
 ghost use Rattle.eval_data.specs.Parts.{here_of, wanted_of};
 ghost use Rattle.eval_data.specs.Steps.{code_of, use_of};
+ghost use Rattle.value_steps.specs.Further.{gathered_code};
 ghost use Rattle.name_steps.specs.Applied.{applied_view, applied_plan};
 
 use crate::applied::{Applied, applied_of};
 use crate::calling::{called_with, count_of};
-use crate::look_ups::own_reached;
+use crate::look_ups::{function_in, operation_in, own_reached};
 use crate::parts::boxed_part;
 use crate::slots::local_slot;
 use eval_data::{Collecting, Frame, Here, Parts, Step, Strict, Then, Use, Wanted};
 use expr_tree::Expr;
 use spec_table::ClassTable;
 use std::alloc::Global;
+use value_steps::{Gathered, collected};
 use vdm_kinds::{Name, OpRef, Operator, OutOfMemory, Place, RunFault};
 use vdm_values::Slot;
 
@@ -32,8 +35,8 @@ pub fn bare_call<'t>(
     locals: &[(Name, Slot)],
     here: Here<'t>,
     tree: &'t Expr,
-) -> Result<Step<'t>, OutOfMemory>
-    ensures { IfOk result (λ s. (setting : Setting) → setting.spec ≡ table_spec table.now → code_of setting locals.now s ≡ bare_call setting (here_of here.entry) locals.now (view_of tree.now)) }
+) -> Result<Gathered<'t>, OutOfMemory>
+    ensures { IfOk result (λ g. (setting : Setting) → setting.spec ≡ table_spec table.now → gathered_code setting locals.now g ≡ bare_call setting (here_of here.entry) locals.now (view_of tree.now)) }
 {
     match tree {
         Expr::Apply(head, arguments, place) => application(
@@ -46,7 +49,7 @@ pub fn bare_call<'t>(
             *place,
             Wanted::Nothing,
         ),
-        _ => Ok(Step::Fail(RunFault::TypeFault, tree.place())),
+        _ => Ok(Gathered::Part(Step::Fail(RunFault::TypeFault, tree.place()))),
     }
 }
 
@@ -60,8 +63,8 @@ pub fn application<'t>(
     arguments: &'t [Expr],
     place: Place,
     wanted: Wanted,
-) -> Result<Step<'t>, OutOfMemory>
-    ensures { IfOk result (λ s. (setting : Setting) → setting.spec ≡ table_spec table.now → code_of setting locals.now s ≡ application setting (here_of here.entry) (boxed_view head.now) (expr_trees (views_of arguments.now)) place (wanted_of wanted) locals.now) }
+) -> Result<Gathered<'t>, OutOfMemory>
+    ensures { IfOk result (λ g. (setting : Setting) → setting.spec ≡ table_spec table.now → gathered_code setting locals.now g ≡ application setting (here_of here.entry) (boxed_view head.now) (expr_trees (views_of arguments.now)) place (wanted_of wanted) locals.now) }
 {
     let applied = applied_of(head);
     application_of(
@@ -69,7 +72,7 @@ pub fn application<'t>(
     )
 }
 
-/// Of a member the object is evaluated first.
+/// Of a member the value is evaluated first.
 fn application_of<'t>(
     alloc: Global,
     table: &ClassTable,
@@ -80,22 +83,25 @@ fn application_of<'t>(
     arguments: &'t [Expr],
     place: Place,
     wanted: Wanted,
-) -> Result<Step<'t>, OutOfMemory>
-    ensures { IfOk result (λ s. (setting : Setting) → setting.spec ≡ table_spec table.now → code_of setting locals.now s ≡ applied_plan setting (here_of here.entry) (boxed_view head.now) (applied_view applied.entry) (expr_trees (views_of arguments.now)) place (wanted_of wanted) locals.now) }
+) -> Result<Gathered<'t>, OutOfMemory>
+    ensures { IfOk result (λ g. (setting : Setting) → setting.spec ≡ table_spec table.now → gathered_code setting locals.now g ≡ applied_plan setting (here_of here.entry) (boxed_view head.now) (applied_view applied.entry) (expr_trees (views_of arguments.now)) place (wanted_of wanted) locals.now) }
 {
     match applied {
         Applied::Name(name) => name_applied(
             alloc, table, locals, here, head, name, arguments, place, wanted,
         ),
-        Applied::Member(target, name) => {
-            let used = Use::CallThrough(here.scope, name, arguments, wanted);
-            Ok(boxed_part(here, target, Frame::With(used, place)))
+        Applied::Qualified(class, name) => qualified_applied(
+            alloc, table, here, head, class, name, arguments, place, wanted,
+        ),
+        Applied::Member(target, name, dot) => {
+            let used = Use::CallThrough(here, name, arguments, dot, wanted);
+            Ok(Gathered::Part(boxed_part(here, target, Frame::With(used, place))))
         }
         Applied::Value => looked_up(alloc, here, head, arguments, place),
     }
 }
 
-/// A local hides an operation.
+/// A local hides functions and operations.
 fn name_applied<'t>(
     alloc: Global,
     table: &ClassTable,
@@ -106,8 +112,8 @@ fn name_applied<'t>(
     arguments: &'t [Expr],
     place: Place,
     wanted: Wanted,
-) -> Result<Step<'t>, OutOfMemory>
-    ensures { IfOk result (λ s. (setting : Setting) → setting.spec ≡ table_spec table.now → code_of setting locals.now s ≡ name_applied setting (here_of here.entry) (boxed_view head.now) name (expr_trees (views_of arguments.now)) place (wanted_of wanted) (local_named locals.now name) locals.now) }
+) -> Result<Gathered<'t>, OutOfMemory>
+    ensures { IfOk result (λ g. (setting : Setting) → setting.spec ≡ table_spec table.now → gathered_code setting locals.now g ≡ name_applied setting (here_of here.entry) (boxed_view head.now) name (expr_trees (views_of arguments.now)) place (wanted_of wanted) (local_named locals.now name) locals.now) }
 {
     match local_slot(locals, name) {
         Some(_) => looked_up(alloc, here, head, arguments, place),
@@ -125,12 +131,67 @@ fn hidden_by_none<'t>(
     arguments: &'t [Expr],
     place: Place,
     wanted: Wanted,
-) -> Result<Step<'t>, OutOfMemory>
-    ensures { IfOk result (λ s. (setting : Setting) → setting.spec ≡ table_spec table.now → (locals : Locals) → code_of setting locals s ≡ name_applied setting (here_of here.entry) (boxed_view head.now) name (expr_trees (views_of arguments.now)) place (wanted_of wanted) None locals) }
+) -> Result<Gathered<'t>, OutOfMemory>
+    ensures { IfOk result (λ g. (setting : Setting) → setting.spec ≡ table_spec table.now → (locals : Locals) → gathered_code setting locals g ≡ name_applied setting (here_of here.entry) (boxed_view head.now) name (expr_trees (views_of arguments.now)) place (wanted_of wanted) None locals) }
 {
     let count = count_of(arguments)?;
+    let function = function_in(table, here.scope, name, count);
     let op = own_reached(table, here.scope, here.own, name, count);
-    called_or_looked_up(alloc, here, head, arguments, op, place, wanted)
+    applied_or_called(alloc, here, head, arguments, function, op, place, wanted)
+}
+
+/// What a name means in the class of another name.
+fn qualified_applied<'t>(
+    alloc: Global,
+    table: &ClassTable,
+    here: Here<'t>,
+    head: &'t Box<Expr>,
+    class: Name,
+    name: Name,
+    arguments: &'t [Expr],
+    place: Place,
+    wanted: Wanted,
+) -> Result<Gathered<'t>, OutOfMemory>
+    ensures { IfOk result (λ g. (setting : Setting) → setting.spec ≡ table_spec table.now → (locals : Locals) → gathered_code setting locals g ≡ qualified_applied setting (here_of here.entry) (boxed_view head.now) class name (expr_trees (views_of arguments.now)) place (wanted_of wanted) locals) }
+{
+    let count = count_of(arguments)?;
+    let function = function_in(table, Some(class), name, count);
+    let op = operation_in(table, Some(class), name, count);
+    applied_or_called(alloc, here, head, arguments, function, op, place, wanted)
+}
+
+/// A name that means a function is applied to the arguments; else it may mean this operation.
+fn applied_or_called<'t>(
+    alloc: Global,
+    here: Here<'t>,
+    head: &'t Box<Expr>,
+    arguments: &'t [Expr],
+    function: Option<OpRef>,
+    op: Option<OpRef>,
+    place: Place,
+    wanted: Wanted,
+) -> Result<Gathered<'t>, OutOfMemory>
+    ensures { IfOk result (λ g. (setting : Setting) (locals : Locals) → gathered_code setting locals g ≡ applied_or_called setting (here_of here.entry) (boxed_view head.now) (expr_trees (views_of arguments.now)) function op place (wanted_of wanted) locals) }
+{
+    match function {
+        Some(function) => applied(alloc, here, function, arguments, place),
+        None => called_or_looked_up(alloc, here, head, arguments, op, place, wanted),
+    }
+}
+
+/// The arguments of a function, and then the function.
+fn applied<'t>(
+    alloc: Global,
+    here: Here<'t>,
+    function: OpRef,
+    arguments: &'t [Expr],
+    place: Place,
+) -> Result<Gathered<'t>, OutOfMemory>
+    ensures { IfOk result (λ g. (setting : Setting) (locals : Locals) → gathered_code setting locals g ≡ application_of setting.spec (here_of here.entry) function (expr_trees (views_of arguments.now)) place locals) }
+{
+    let then = Then::Applies(function, arguments);
+    let done = Vec::new(alloc);
+    collected(alloc, here, place, Parts::Items(arguments), done, then)
 }
 
 /// A name is called where it means an operation of the object, and else looked up in.
@@ -142,12 +203,13 @@ fn called_or_looked_up<'t>(
     op: Option<OpRef>,
     place: Place,
     wanted: Wanted,
-) -> Result<Step<'t>, OutOfMemory>
-    ensures { IfOk result (λ s. (setting : Setting) (locals : Locals) → code_of setting locals s ≡ called_or_looked_up setting (here_of here.entry) (boxed_view head.now) (expr_trees (views_of arguments.now)) (here_of here.entry).me (here_of here.entry).own op place (wanted_of wanted) locals) }
+) -> Result<Gathered<'t>, OutOfMemory>
+    ensures { IfOk result (λ g. (setting : Setting) (locals : Locals) → gathered_code setting locals g ≡ called_or_looked_up setting (here_of here.entry) (boxed_view head.now) (expr_trees (views_of arguments.now)) (here_of here.entry).me (here_of here.entry).own op place (wanted_of wanted) locals) }
 {
     match (here.me, here.own, op) {
         (Some(me), Some(own), Some(op)) => {
-            Ok(called_with(alloc, arguments, me, own, op, place, wanted))
+            let step = called_with(alloc, arguments, me, own, op, place, wanted);
+            Ok(Gathered::Part(step))
         }
         _ => looked_up(alloc, here, head, arguments, place),
     }
@@ -160,14 +222,14 @@ fn looked_up<'t>(
     head: &'t Box<Expr>,
     arguments: &'t [Expr],
     place: Place,
-) -> Result<Step<'t>, OutOfMemory>
-    ensures { IfOk result (λ s. (setting : Setting) (locals : Locals) → code_of setting locals s ≡ looked_up (here_of here.entry) (boxed_view head.now) (expr_trees (views_of arguments.now)) place locals) }
+) -> Result<Gathered<'t>, OutOfMemory>
+    ensures { IfOk result (λ g. (setting : Setting) (locals : Locals) → gathered_code setting locals g ≡ looked_up (here_of here.entry) (boxed_view head.now) (expr_trees (views_of arguments.now)) place locals) }
 {
     if arguments.len() != 1 {
-        return Ok(Step::Fail(RunFault::TypeFault, place));
+        return Ok(Gathered::Part(Step::Fail(RunFault::TypeFault, place)));
     }
     let used = argument_used(alloc, here, arguments, place)?;
-    Ok(boxed_part(here, head, Frame::With(used, place)))
+    Ok(Gathered::Part(boxed_part(here, head, Frame::With(used, place))))
 }
 
 /// The value in which something is looked up stands before that of the argument.

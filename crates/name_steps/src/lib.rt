@@ -15,9 +15,9 @@ pub use applying::{application, bare_call};
 pub use calling::called_through;
 pub use creating::created;
 pub use look_ups::{
-    operation_definition, operation_reached, own_reached, variable_definition, variable_in,
-    variables_of,
+    function_in, operation_definition, operation_in, operation_reached, own_reached, value_in,
+    variable_definition, variable_in, variables_of,
 };
 pub use outcomes::{after_need, came_of_need};
-pub use reading::name;
+pub use reading::{name, qualified, result_value};
 pub use slots::{held_slot, local_slot};

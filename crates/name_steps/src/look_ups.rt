@@ -7,9 +7,9 @@ ghost use Rattle.vdm_tree.specs.ClassView.{variable_view, operation_view};
 ghost use Rattle.vdm_tree.specs.declared.class_def.VarDef.{VarDef};
 ghost use Rattle.vdm_tree.specs.declared.class_def.OpDef.{OpDef};
 ghost use Rattle.spec_table.specs.Tables.{table_spec};
-ghost use Rattle.node_meaning.specs.Names.{one_variable, variable_in, variable_definition, variables_of, operation_definition, operation_reached, own_reached};
+ghost use Rattle.node_meaning.specs.Names.{one_operation, one_variable, value_in, function_in, operation_in, variable_in, variable_definition, variables_of, operation_definition, operation_reached, own_reached};
 
-use class_meaning::VarFound;
+use class_meaning::{OpFound, VarFound};
 use spec_table::ClassTable;
 use vdm_kinds::{Name, OpRef, VarRef};
 use vdm_tree::{OpDef, VarDef};
@@ -31,6 +31,51 @@ fn one_variable(found: VarFound) -> Option<VarRef>
         VarFound::One(variable) => Some(variable),
         VarFound::Several => None,
         VarFound::None => None,
+    }
+}
+
+/// The class value that a name means in the class in which a node stands.
+pub fn value_in(table: &ClassTable, scope: Option<Name>, name: Name) -> Option<VarRef>
+    ensures { result ≡ value_in (table_spec table.now) scope name }
+{
+    match scope {
+        Some(class) => one_variable(table.find_value(class, name)),
+        None => None,
+    }
+}
+
+/// The function that a name with so many arguments means in the class in which a node stands.
+pub fn function_in(table: &ClassTable, scope: Option<Name>, name: Name, arity: u32) -> Option<OpRef>
+    ensures { result ≡ function_in (table_spec table.now) scope name arity }
+{
+    match scope {
+        Some(class) => one_operation(table.find_fn(class, name, arity)),
+        None => None,
+    }
+}
+
+/// The operation that a name with so many arguments means in a class.
+pub fn operation_in(
+    table: &ClassTable,
+    scope: Option<Name>,
+    name: Name,
+    arity: u32,
+) -> Option<OpRef>
+    ensures { result ≡ operation_in (table_spec table.now) scope name arity }
+{
+    match scope {
+        Some(class) => one_operation(table.find_op(class, name, arity)),
+        None => None,
+    }
+}
+
+fn one_operation(found: OpFound) -> Option<OpRef>
+    ensures { result ≡ one_operation found }
+{
+    match found {
+        OpFound::One(op) => Some(op),
+        OpFound::Several => None,
+        OpFound::None => None,
     }
 }
 

@@ -29,7 +29,7 @@ pub fn answered_of<'t>(
     asking: Asking<'t>,
     answer: Answer,
 ) -> Result<Action<'t>, OutOfMemory>
-    ensures same { IfOk result (λ a. (spec : SpecTree) → action_code spec locals.new.items a ≡ answered_of locals.old.items asking.entry answer) }
+    ensures same { IfOk result (λ a. (spec : SpecTree) → action_code spec locals.new.items a ≡ answered_of spec locals.old.items asking.entry answer) }
     ensures falls { IfOk result (λ a. height a < weight asking.entry) }
 {
     // A part that is not used is bound, so that it is dropped in its own arm: that is cheaper to prove.
@@ -66,7 +66,7 @@ fn class_made<'t>(
 
 /// What is done once a request was answered: the call asks for its activation.
 fn requested<'t>(call: Call<'t>, answer: Answer) -> Action<'t>
-    ensures same { (spec : SpecTree) (locals : Locals) → action_code spec locals result ≡ requested_plan call.entry.me call.entry.own call.entry.op (call_operation call.entry) call.entry.place locals answer }
+    ensures same { (spec : SpecTree) (locals : Locals) → action_code spec locals result ≡ requested_plan spec call.entry.me call.entry.own call.entry.op (call_operation call.entry) call.entry.place locals answer }
     ensures falls { height result ≤ 2 }
 {
     drop(answer);

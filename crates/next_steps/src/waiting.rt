@@ -44,9 +44,12 @@ pub fn then_of<'t>(
         Waiting::After(after, place) => Ok(behind_need(after, place, flow)),
         Waiting::Called => Ok(called(flow)),
         Waiting::Rest(here, statements) => Ok(unless_ended(here, statements, flow)),
-        Waiting::Assign(here, target, place) => Ok(assigned_flow(table, here, target, place, flow)),
+        Waiting::Assign(here, target, place) => {
+            let action = assigned_flow(alloc, table, here, target, place, flow)?;
+            Ok(action)
+        }
         Waiting::Return(place) => Ok(returned_flow(place, flow)),
-        Waiting::Body(call, saved) => Ok(call_ended(locals, call, saved, flow)),
+        Waiting::Body(call, saved) => call_ended(alloc, table, locals, call, saved, flow),
         Waiting::Initial(making) => initialised(alloc, table, locals, making, flow),
         Waiting::End => Ok(main_ended(flow)),
     }
@@ -66,21 +69,25 @@ fn behind_need<'t>(after: After, place: Place, flow: Flow) -> Action<'t>
 
 /// What came is assigned, where it is a value.
 fn assigned_flow<'t>(
+    alloc: Global,
     table: &'t ClassTable,
     here: Here<'t>,
     target: &'t Target,
     place: Place,
     flow: Flow,
-) -> Action<'t>
-    ensures same { (locals : Locals) → action_code (table_spec table.now) locals result ≡ with_value place (assigned_plan (table_spec table.now) (here_of here.entry) (target_view target.now) place) (flow_of flow locals) }
-    ensures falls { height result ≤ 2 }
+) -> Result<Action<'t>, OutOfMemory>
+    ensures same { IfOk result (λ a. (locals : Locals) → action_code (table_spec table.now) locals a ≡ with_value place (assigned_plan (table_spec table.now) (here_of here.entry) (target_view target.now) place) (flow_of flow locals)) }
+    ensures falls { IfOk result (λ a. height a ≤ 2) }
 {
     match flow {
-        Flow::Gave(Slot::Held(value)) => assigned(table, here, target, place, value),
-        Flow::Gave(Slot::Unset) => Action::Fail(RunFault::Undefined, place),
-        Flow::Next => Action::Fail(RunFault::Undefined, place),
-        Flow::Returned(_slot) => Action::Fail(RunFault::Undefined, place),
-        Flow::Exited(value, from) => Action::Finish(Flow::Exited(value, from)),
+        Flow::Gave(Slot::Held(value)) => {
+            let action = assigned(alloc, table, here, target, place, value)?;
+            Ok(action)
+        }
+        Flow::Gave(Slot::Unset) => Ok(Action::Fail(RunFault::Undefined, place)),
+        Flow::Next => Ok(Action::Fail(RunFault::Undefined, place)),
+        Flow::Returned(_slot) => Ok(Action::Fail(RunFault::Undefined, place)),
+        Flow::Exited(value, from) => Ok(Action::Finish(Flow::Exited(value, from))),
     }
 }
 

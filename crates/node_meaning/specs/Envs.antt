@@ -20,6 +20,10 @@ Locals = List (Name × Slot)
 abbrev pub local_named : Locals → Name → Option Slot
 local_named locals name = option_map (λ (l : Name × Slot). l.1) (find (λ (l : Name × Slot). is_same_name name l.0) (reverse locals))
 
+-- The name under which `RESULT` stands among the locals. Names are numbered from the first on, so no name of a text has this number.
+abbrev pub result_name : Name
+result_name = record { 0 = 4294967295 }
+
 -- what a binding binds, as locals
 abbrev pub bound_locals : Binding → Locals
 bound_locals = map (λ p. (p.0, Holds p.1))
@@ -67,9 +71,12 @@ at here locals = record { here = here; locals = locals }
 abbrev pub outside : Here
 outside = record { scope = None; own = None; me = None; held = None; depth = 0 }
 
--- the initialisers of a class, which name nothing of an object
+-- the functions, class values and initialisers of a class, which name nothing of an object, inside of so many tests of invariants of types
+abbrev pub inside_class : Name → ℕ → Here
+inside_class class depth = record { scope = Some class; own = None; me = None; held = None; depth = depth }
+
 abbrev pub initialising : Name → Here
-initialising class = record { scope = Some class; own = None; me = None; held = None; depth = 0 }
+initialising class = inside_class class 0
 
 -- the body of an operation of a class, on an object and its class
 abbrev pub inside : ℕ → Name → Name → Here

@@ -1,5 +1,5 @@
 -- What each node of an expression does, one line a kind.
-use Rattle.std.specs.Prelude.{ℕ, zero, suc, Bool, true, false, [], length, Option, Some, None}
+use Rattle.std.specs.Prelude.{ℕ, zero, suc, Bool, true, false, [], List, length, Option, Some, None, Result, Ok, Err}
 use Rattle.vdm_kinds.specs.declared.member.OpRef.{OpRef}
 use Rattle.vdm_kinds.specs.declared.member.VarRef.{VarRef}
 use Rattle.vdm_kinds.specs.declared.name.Name.{Name}
@@ -8,6 +8,7 @@ use Rattle.vdm_kinds.specs.declared.operator.Operator.TheVariants.{Interval, Loo
 use Rattle.vdm_kinds.specs.declared.place.Place.{Place}
 use Rattle.vdm_kinds.specs.declared.sign.Sign.{Sign}
 use Rattle.vdm_kinds.specs.declared.sign.Sign.TheVariants.{And, Or, Implies}
+use Rattle.vdm_kinds.specs.declared.run_fault.RunFault.{RunFault}
 use Rattle.vdm_kinds.specs.declared.run_fault.RunFault.TheVariants.{NoMatch, TypeFault, Undefined}
 use Rattle.vdm_kinds.specs.Signs.{sign_operator}
 use Rattle.vdm_values.specs.declared.slot.Slot.{Slot}
@@ -17,7 +18,9 @@ use Rattle.abstract_syntax.specs.Expressions.{
   ExprTree,
   literal,
   named,
+  qualified,
   undefined,
+  result_value,
   bracketed,
   prefixed,
   joined,
@@ -31,6 +34,11 @@ use Rattle.abstract_syntax.specs.Expressions.{
   sequence_comprehension,
   make_tuple,
   make_token,
+  make_record,
+  modify_record,
+  is_of_type,
+  is_of_named,
+  is_of_basic,
   create,
   apply,
   subsequence,
@@ -68,17 +76,21 @@ use Rattle.abstract_syntax.specs.Expressions.{
   one_pattern,
   expr_place,
 }
-use Rattle.abstract_syntax.specs.Values.{ValueTree, boolean, map_of, no_pairs, object}
+use Rattle.abstract_syntax.specs.Types.{TypeTree, basic_type, named_type}
+use Rattle.abstract_syntax.specs.Values.{ValueTree, boolean, map_of, no_pairs, object, record_of}
 use Rattle.pattern_meaning.specs.Ways.{literal_value}
 use Rattle.value_operators.specs.Outcomes.{sized}
 use Rattle.plans.specs.Plans.{become, part}
 use Rattle.node_meaning.specs.Calls.{Wanted, a_value, given}
 use Rattle.node_meaning.specs.Choosing.{collects, for_each, for_some, for_one, the_one, takes_first, choosing}
-use Rattle.node_meaning.specs.Envs.{Locals, Held, slot_held, Here, at, local_named}
+use Rattle.node_meaning.specs.Envs.{Locals, Held, slot_held, Here, at, local_named, result_name}
+use Rattle.node_meaning.specs.Fitting.{fit_answer, fitting_in, typed_maybe}
+use Rattle.node_meaning.specs.Functions.{application_of, class_value}
 use Rattle.node_meaning.specs.Matching.{decided, meets}
-use Rattle.node_meaning.specs.Names.{variable_in, operation_reached, own_reached}
+use Rattle.node_meaning.specs.Names.{function_in, operation_in, operation_reached, own_reached, value_in, variable_in}
 use Rattle.node_meaning.specs.Needs.{Setting, asked}
-use Rattle.node_meaning.specs.Strict.{one_operand, two_operands, a_set, a_sequence, a_tuple, a_map, a_token, a_subsequence, a_component, strict, maplet_exprs}
+use Rattle.node_meaning.specs.Records.{field_exprs, field_names, field_value, record_changed, record_made}
+use Rattle.node_meaning.specs.Strict.{one_operand, two_operands, a_set, a_sequence, a_tuple, a_map, a_token, a_subsequence, a_component, strict, collected, with_others, make, maplet_exprs}
 use Rattle.node_meaning.specs.Tasks.{expr_in, reads, calls, creates, Code, fault, value, value_or_fault, with_value, evaluated, cut_to}
 
 -- ---- names
@@ -106,10 +118,31 @@ abbrev pub read_found : Setting → Here → Place → Option VarRef → Locals 
 read_found setting here place None locals = fault Undefined place
 read_found setting here place (Some var) locals = read_held setting place var here.me here.held locals
 
--- a name that stands alone is the newest local of that name, or a variable
+-- what a name means in a class: a class value, or a variable
+abbrev pub member_value : Setting → Here → Place → Option Name → Name → Option VarRef → Locals → Code
+member_value setting here place scope name (Some ref) locals = class_value setting.spec ref place here.depth locals
+member_value setting here place scope name None locals = read_found setting here place (variable_in setting.spec scope name) locals
+
+abbrev pub value_named : Setting → Here → Place → Option Name → Name → Locals → Code
+value_named setting here place scope name locals = member_value setting here place scope name (value_in setting.spec scope name) locals
+
+-- a name that stands alone is the newest local of that name, or what it means in the class of the node
 abbrev pub name_value : Setting → Here → Place → Name → Option Slot → Locals → Code
 name_value setting here place name (Some slot) locals = slot_value place slot locals
-name_value setting here place name None locals = read_found setting here place (variable_in setting.spec here.scope name) locals
+name_value setting here place name None locals = value_named setting here place here.scope name locals
+
+-- ---- selections
+
+-- a variable of the object of a number, which has to be one of its class
+abbrev pub read_member : Setting → Place → ℕ → Option VarRef → Locals → Code
+read_member setting place n None locals = fault TypeFault place
+read_member setting place n (Some var) locals = asked setting (reads n var) place locals (with_value place value)
+
+-- a field of a record, or a variable of an object
+abbrev pub selected : Setting → Place → Name → ValueTree → Locals → Code
+selected setting place name (record_of class type values) locals = value_or_fault place (field_value setting.spec name class type values) locals
+selected setting place name (object n class) locals = read_member setting place n (variable_in setting.spec (Some class) name) locals
+selected setting place name v locals = fault TypeFault place
 
 -- ---- applications
 
@@ -119,25 +152,41 @@ looked_up here head (one_expr argument no_exprs) place locals =
     strict here (two_operands LookUp) place (one_expr head (one_expr argument no_exprs)) locals
 looked_up here head _ place locals = fault TypeFault place
 
--- so far nothing is called with arguments
+-- So far no operation has parameters, so nothing is called with arguments.
 abbrev pub called_with : Setting → ExprTrees → ℕ → Name → OpRef → Place → Wanted → Locals → Code
 called_with setting no_exprs me own op place wanted locals = asked setting (calls me own op []) place locals (given wanted place)
 called_with setting (one_expr argument arguments) me own op place wanted locals = fault Undefined place
 
--- a call on what has no such operation is a type fault at the call
-abbrev pub called_on : Setting → ExprTrees → ℕ → Name → Option OpRef → Place → Wanted → Locals → Code
-called_on setting arguments me own None place wanted locals = fault TypeFault place
-called_on setting arguments me own (Some op) place wanted locals = called_with setting arguments me own op place wanted locals
+-- A call on what has no such operation is a type fault at the call, behind its arguments.
+abbrev pub no_such_call : Place → List ValueTree → Locals → Code
+no_such_call place vs locals = fault TypeFault place
+
+abbrev pub called_on : Setting → Here → ExprTrees → ℕ → Name → Option OpRef → Place → Wanted → Locals → Code
+called_on setting here arguments me own None place wanted locals = collected here place arguments [] (no_such_call place) locals
+called_on setting here arguments me own (Some op) place wanted locals = called_with setting arguments me own op place wanted locals
 
 abbrev pub arguments_of : ExprTrees → ℕ
 arguments_of no_exprs = zero
 arguments_of (one_expr argument arguments) = suc (arguments_of arguments)
 
--- a call on a value, which has to be an object
-abbrev pub called_through : Setting → Option Name → Name → ExprTrees → Place → Wanted → ValueTree → Locals → Code
-called_through setting scope name arguments place wanted (object number class) locals =
-    called_on setting arguments number class (operation_reached setting.spec scope class name (arguments_of arguments)) place wanted locals
-called_through setting scope name arguments place wanted v locals = fault TypeFault place
+-- what is looked up in a value: in one place alone
+abbrev pub looked_up_in : Here → ExprTrees → Place → ValueTree → Locals → Code
+looked_up_in here (one_expr argument no_exprs) place v locals =
+    with_others here place (one_expr argument no_exprs) [] (make (two_operands LookUp) place) v locals
+looked_up_in here _ place v locals = fault TypeFault place
+
+-- a field of a record is looked up in
+abbrev pub field_applied : Here → ExprTrees → Place → Place → Result ValueTree RunFault → Locals → Code
+field_applied here arguments place dot (Ok v) locals = looked_up_in here arguments place v locals
+field_applied here arguments place dot (Err kind) locals = fault kind dot
+
+-- a member of a value: an operation of an object is called, a field of a record looked up in
+abbrev pub called_through : Setting → Here → Name → ExprTrees → Place → Place → Wanted → ValueTree → Locals → Code
+called_through setting here name arguments dot place wanted (object number class) locals =
+    called_on setting here arguments number class (operation_reached setting.spec here.scope class name (arguments_of arguments)) place wanted locals
+called_through setting here name arguments dot place wanted (record_of class type values) locals =
+    field_applied here arguments place dot (field_value setting.spec name class type values) locals
+called_through setting here name arguments dot place wanted v locals = collected here place arguments [] (no_such_call place) locals
 
 -- a name is called where it means an operation of the object, and else looked up in
 abbrev pub called_or_looked_up : Setting → Here → ExprTree → ExprTrees → Option ℕ → Option Name → Option OpRef → Place → Wanted → Locals → Code
@@ -145,19 +194,34 @@ called_or_looked_up setting here head arguments (Some me) (Some own) (Some op) p
     called_with setting arguments me own op place wanted locals
 called_or_looked_up setting here head arguments _ _ _ place wanted locals = looked_up here head arguments place locals
 
--- a local hides an operation
+-- a name that means a function is applied to the arguments; else it may mean this operation
+abbrev pub applied_or_called : Setting → Here → ExprTree → ExprTrees → Option OpRef → Option OpRef → Place → Wanted → Locals → Code
+applied_or_called setting here head arguments (Some function) op place wanted locals =
+    application_of setting.spec here function arguments place locals
+applied_or_called setting here head arguments None op place wanted locals =
+    called_or_looked_up setting here head arguments here.me here.own op place wanted locals
+
+-- a local hides functions and operations
 abbrev pub name_applied : Setting → Here → ExprTree → Name → ExprTrees → Place → Wanted → Option Slot → Locals → Code
 name_applied setting here head name arguments place wanted (Some slot) locals = looked_up here head arguments place locals
 name_applied setting here head name arguments place wanted None locals =
-    called_or_looked_up setting here head arguments here.me here.own
+    applied_or_called setting here head arguments (function_in setting.spec here.scope name (arguments_of arguments))
     (own_reached setting.spec here.scope here.own name (arguments_of arguments)) place wanted locals
 
--- what an application does, by what is applied; of a selection the object is evaluated first
+-- what a name means in the class of another name: its own operation, not that of an object's class
+abbrev pub qualified_applied : Setting → Here → ExprTree → Name → Name → ExprTrees → Place → Wanted → Locals → Code
+qualified_applied setting here head class name arguments place wanted locals =
+    applied_or_called setting here head arguments (function_in setting.spec (Some class) name (arguments_of arguments))
+    (operation_in setting.spec (Some class) name (arguments_of arguments)) place wanted locals
+
+-- what an application does, by what is applied; of a selection the value is evaluated first
 abbrev pub application : Setting → Here → ExprTree → ExprTrees → Place → Wanted → Locals → Code
 application setting here (named name name_place) arguments place wanted locals =
     name_applied setting here (named name name_place) name arguments place wanted (local_named locals name) locals
+application setting here (qualified class name name_place class_place) arguments place wanted locals =
+    qualified_applied setting here (qualified class name name_place class_place) class name arguments place wanted locals
 application setting here (select target name name_place dot) arguments place wanted locals =
-    evaluated here locals target place (called_through setting here.scope name arguments place wanted)
+    evaluated here locals target place (called_through setting here name arguments dot place wanted)
 application setting here head arguments place wanted locals = looked_up here head arguments place locals
 
 -- so far no class has a constructor
@@ -229,12 +293,18 @@ cases_met spec here place no_cases others count v locals = others_of here place 
 cases_met spec here place (one_case patterns body more) others count v locals =
     patterns_met spec here place v patterns count body (λ after. cases_met spec here place more others count v after) locals
 
--- each definition sees the earlier ones; so far none has a type
+-- each definition sees the earlier ones; a value is tested against its type before it meets the pattern
 abbrev pub defined : SpecTree → Here → Place → ℕ → DefinedTrees → ExprTree → Locals → Code
 defined spec here place count no_defined body locals = within here count body locals
-defined spec here place count (one_defined pattern None tree more) body locals =
-    evaluated here locals tree place (meets spec here place pattern (defined spec here place count more body) (no_match place))
-defined spec here place count (one_defined pattern (Some declared) tree more) body locals = fault Undefined place
+defined spec here place count (one_defined pattern declared tree more) body locals =
+    evaluated here locals tree place
+    (typed_maybe spec here.scope declared place (meets spec here place pattern (defined spec here place count more body) (no_match place)))
+
+-- ---- tests of types
+
+-- whether a value fits a type
+abbrev pub fit_value : SpecTree → Option Name → TypeTree → Place → ValueTree → Locals → Code
+fit_value spec scope t place v locals = value_or_fault place (fit_answer (fitting_in spec scope t v)) locals
 
 -- ---- all kinds
 
@@ -242,7 +312,9 @@ defined spec here place count (one_defined pattern (Some declared) tree more) bo
 abbrev pub expr_plan : Setting → Here → Locals → ExprTree → Code
 expr_plan setting here locals (literal written place) = value_or_fault place (sized (literal_value written)) locals
 expr_plan setting here locals (named name place) = name_value setting here place name (local_named locals name) locals
+expr_plan setting here locals (qualified class name name_place place) = value_named setting here place (Some class) name locals
 expr_plan setting here locals (undefined place) = fault Undefined place
+expr_plan setting here locals (result_value place) = held_value place (local_named locals result_name) locals
 expr_plan setting here locals (bracketed inner place) = become (expr_in (at here locals) inner)
 expr_plan setting here locals (prefixed sign tree place) = prefixed_by here (sign_operator sign) tree place locals
 expr_plan setting here locals (joined left sign right place) = joined_by here (sign_operator sign) left sign right place locals
@@ -261,8 +333,18 @@ expr_plan setting here locals (sequence_comprehension item pattern set condition
     (collects a_sequence (one_expr item no_exprs) condition) locals
 expr_plan setting here locals (make_tuple parts place) = strict here a_tuple place parts locals
 expr_plan setting here locals (make_token inner place) = strict here a_token place (one_expr inner no_exprs) locals
+expr_plan setting here locals (make_record t arguments place) =
+    collected here place arguments [] (record_made setting.spec here.scope t place) locals
+expr_plan setting here locals (modify_record target changes place) =
+    collected here place (one_expr target (field_exprs changes)) [] (record_changed setting.spec (field_names changes) place) locals
+expr_plan setting here locals (is_of_type tree t place) = evaluated here locals tree place (fit_value setting.spec here.scope t place)
+expr_plan setting here locals (is_of_named t tree place) =
+    evaluated here locals tree place (fit_value setting.spec here.scope (named_type t place) place)
+expr_plan setting here locals (is_of_basic basic tree place) =
+    evaluated here locals tree place (fit_value setting.spec here.scope (basic_type basic place) place)
 expr_plan setting here locals (create class class_place arguments place) = created_with setting arguments class place locals
 expr_plan setting here locals (apply head arguments place) = application setting here head arguments place a_value locals
+expr_plan setting here locals (select target name name_place place) = evaluated here locals target place (selected setting place name)
 expr_plan setting here locals (subsequence target from to place) =
     strict here a_subsequence place (one_expr target (one_expr from (one_expr to no_exprs))) locals
 expr_plan setting here locals (select_part target number place) = strict here (a_component number) place (one_expr target no_exprs) locals

@@ -3,12 +3,14 @@ pub mod Choosing
 pub mod Envs
 pub mod Expressions
 pub mod Faults
+pub mod Fitting
+pub mod Functions
 pub mod Matching
 pub mod Names
 pub mod Needs
 pub mod Objects
+pub mod Records
 pub mod Statements
 pub mod Strict
 pub mod TaskPlans
 pub mod Tasks
-pub mod Types

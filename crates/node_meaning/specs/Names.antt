@@ -4,15 +4,17 @@ use Rattle.std.specs.Option.{option_and_then}
 use Rattle.vdm_kinds.specs.declared.member.OpRef.{OpRef}
 use Rattle.vdm_kinds.specs.declared.member.VarRef.{VarRef}
 use Rattle.vdm_kinds.specs.declared.name.Name.{Name}
-use Rattle.abstract_syntax.specs.Classes.{VariableTree, OperationTree, SpecTree}
+use Rattle.abstract_syntax.specs.Classes.{ValueDefTree, VariableTree, FunctionTree, OperationTree, SpecTree}
 use Rattle.class_meaning.specs.Classes.{class_number}
 use Rattle.class_meaning.specs.Calls.{reached}
-use Rattle.class_meaning.specs.Found.{found_variable}
+use Rattle.class_meaning.specs.Found.{found_value, found_variable, found_function, found_operation}
 use Rattle.class_meaning.specs.Objects.{layout}
+use Rattle.class_meaning.specs.declared.found.OpFound.{OpFound}
+use Rattle.class_meaning.specs.declared.found.OpFound.TheVariants.{One as OneOp, Several as SeveralOps, None as NoOp}
 use Rattle.class_meaning.specs.declared.found.VarFound.{VarFound}
 use Rattle.class_meaning.specs.declared.found.VarFound.TheVariants.{One, Several, None as NoVariable}
 use Rattle.class_meaning.specs.Found.{own_in}
-use Rattle.class_meaning.specs.Members.{Member, of_variable, of_operation}
+use Rattle.class_meaning.specs.Members.{Member, of_value, of_variable, of_function, of_operation}
 use Rattle.class_meaning.specs.declared.ask.Ask.TheVariants.{ByName, Called}
 
 -- the number of a class that may be named
@@ -44,7 +46,50 @@ variable_in spec (Some class) name = option_and_then (λ (k : ℕ). one_variable
 abbrev pub variables_of : SpecTree → Name → Option (List VarRef)
 variables_of spec class = option_map (layout spec) (class_number spec class)
 
+-- ---- class values
+
+abbrev pub value_of : Member → Option ValueDefTree
+value_of (of_value v) = Some v
+value_of _ = None
+
+-- the definition of a class value in its class
+abbrev pub value_definition : SpecTree → VarRef → Option ValueDefTree
+value_definition spec v = option_and_then value_of (option_and_then (own_in spec (ByName v.name)) (class_number spec v.class))
+
+-- the class value that a name means in the class in which a node stands
+abbrev pub value_in : SpecTree → Option Name → Name → Option VarRef
+value_in spec None name = None
+value_in spec (Some class) name = option_and_then (λ (k : ℕ). one_variable (found_value spec k name)) (class_number spec class)
+
+-- ---- functions
+
+abbrev pub function_of : Member → Option FunctionTree
+function_of (of_function f) = Some f
+function_of _ = None
+
+-- the definition of a function in its class
+abbrev pub function_definition : SpecTree → OpRef → Option FunctionTree
+function_definition spec f = option_and_then function_of (option_and_then (own_in spec (Called f.name f.arity)) (class_number spec f.class))
+
+-- the one function or operation that was found
+abbrev pub one_operation : OpFound → Option OpRef
+one_operation (OneOp op) = Some op
+one_operation SeveralOps = None
+one_operation NoOp = None
+
+-- the function that a name with so many arguments means in the class in which a node stands
+abbrev pub function_in : SpecTree → Option Name → Name → ℕ → Option OpRef
+function_in spec None name arity = None
+function_in spec (Some class) name arity =
+    option_and_then (λ (k : ℕ). one_operation (found_function spec k name arity)) (class_number spec class)
+
 -- ---- operations
+
+-- ... and the operation, which ``C`op`` means
+abbrev pub operation_in : SpecTree → Option Name → Name → ℕ → Option OpRef
+operation_in spec None name arity = None
+operation_in spec (Some class) name arity =
+    option_and_then (λ (k : ℕ). one_operation (found_operation spec k name arity)) (class_number spec class)
 
 abbrev pub operation_of : Member → Option OperationTree
 operation_of (of_operation o) = Some o

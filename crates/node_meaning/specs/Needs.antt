@@ -37,7 +37,7 @@ answered_slot locals answer = finish (gave (slot_in answer) locals)
 -- the questions of a thread. So far it calls and makes objects without arguments alone, prints nothing, and doesn't tell the time.
 abbrev pub questions_of : SpecTree → Need → Place → Locals → Code
 questions_of spec (reads me var) place locals = ask (noted (Read me var)) (answered_slot locals)
-questions_of spec (calls me own op []) place locals = called me own op (operation_definition spec op) place locals
+questions_of spec (calls me own op []) place locals = called spec me own op (operation_definition spec op) place locals
 questions_of spec (calls me own op (argument ∷ arguments)) place locals = fault TypeFault place
 questions_of spec (creates class []) place locals = new_object spec class place locals (variables_of spec class)
 questions_of spec (creates class (argument ∷ arguments)) place locals = fault Undefined place

@@ -1,9 +1,9 @@
 -- New objects. So far no class has a constructor.
-use Rattle.std.specs.Prelude.{if◌then◌else◌, List, [], ◌∷◌, ◌++◌, Option, Some, None}
+use Rattle.std.specs.Prelude.{List, [], ◌∷◌, ◌++◌, Option, Some, None}
 use Rattle.vdm_kinds.specs.declared.member.VarRef.{VarRef}
 use Rattle.vdm_kinds.specs.declared.name.Name.{Name}
 use Rattle.vdm_kinds.specs.declared.place.Place.{Place}
-use Rattle.vdm_kinds.specs.declared.run_fault.RunFault.TheVariants.{TypeFault, Undefined}
+use Rattle.vdm_kinds.specs.declared.run_fault.RunFault.TheVariants.{Undefined}
 use Rattle.vdm_values.specs.declared.slot.Slot.{Slot}
 use Rattle.vdm_values.specs.declared.slot.Slot.TheVariants.{Unset, Held}
 use Rattle.abstract_syntax.specs.Values.{object}
@@ -16,7 +16,7 @@ use Rattle.plans.specs.Plans.{finish, ask, part}
 use Rattle.node_meaning.specs.Envs.{Locals, at, initialising}
 use Rattle.node_meaning.specs.Names.{variable_definition}
 use Rattle.node_meaning.specs.Tasks.{expr_in, Flow, gave, next, returned, exited, noted, Code, fault, value}
-use Rattle.node_meaning.specs.Types.{all_fit}
+use Rattle.node_meaning.specs.Fitting.{slots_fault, unless_fault}
 
 -- the object that was made
 abbrev pub created : Name → Place → Locals → Answer → Code
@@ -26,7 +26,7 @@ created class place locals _ = fault Undefined place
 -- once all initialisers are evaluated their types are tested, and then the object is asked for
 abbrev pub make_object : SpecTree → Name → Place → Locals → List VarRef → List Slot → Code
 make_object spec class place locals vars slots =
-    if all_fit spec vars slots then ask (noted (New class slots)) (created class place locals) else fault TypeFault place
+    unless_fault place (slots_fault spec vars slots) (ask (noted (New class slots)) (created class place locals))
 
 -- the slot of one variable behind others: what its initialiser gives. The locals are again those of the node that makes the object.
 abbrev pub initial_value : Place → Locals → (List Slot → Code) → List Slot → Flow → Code

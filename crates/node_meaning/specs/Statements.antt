@@ -1,8 +1,8 @@
 -- What each statement does, one line a kind.
-use Rattle.std.specs.Prelude.{ℕ, if◌then◌else◌, [], ◌∷◌, Option, Some, None}
+use Rattle.std.specs.Prelude.{ℕ, [], ◌∷◌, Option, Some, None}
 use Rattle.vdm_kinds.specs.declared.member.VarRef.{VarRef}
 use Rattle.vdm_kinds.specs.declared.place.Place.{Place}
-use Rattle.vdm_kinds.specs.declared.run_fault.RunFault.TheVariants.{InstanceInvariant, TypeFault, Undefined}
+use Rattle.vdm_kinds.specs.declared.run_fault.RunFault.TheVariants.{InstanceInvariant, Undefined}
 use Rattle.vdm_values.specs.declared.slot.Slot.TheVariants.{Unset, Held}
 use Rattle.abstract_syntax.specs.Values.{ValueTree}
 use Rattle.abstract_syntax.specs.Expressions.{ExprTree}
@@ -29,7 +29,7 @@ use Rattle.plans.specs.Plans.{finish, ask, part}
 use Rattle.node_meaning.specs.Envs.{Locals, Here, at}
 use Rattle.node_meaning.specs.Names.{variable_in, variable_definition}
 use Rattle.node_meaning.specs.Tasks.{call_in, stmt_in, Flow, gave, next, returned, exited, noted, Code, fault, evaluated}
-use Rattle.node_meaning.specs.Types.{fits}
+use Rattle.node_meaning.specs.Fitting.{type_fault, unless_fault}
 
 -- ---- assignments
 
@@ -42,13 +42,14 @@ abbrev pub write_of : VarRef → ValueTree → Pair
 write_of var v = record { var = var; value = v }
 
 -- the value is tested against the variable's type, and then written in one step
-abbrev pub write_typed : ℕ → VarRef → Option VariableTree → Place → ValueTree → Locals → Code
-write_typed me var None place v locals = fault Undefined place
-write_typed me var (Some definition) place v locals =
-    if fits definition.declared v then ask (noted (Write me (write_of var v ∷ []))) (written place locals) else fault TypeFault place
+abbrev pub write_typed : SpecTree → ℕ → VarRef → Option VariableTree → Place → ValueTree → Locals → Code
+write_typed spec me var None place v locals = fault Undefined place
+write_typed spec me var (Some definition) place v locals =
+    unless_fault place (type_fault spec (Some var.class) definition.declared v)
+    (ask (noted (Write me (write_of var v ∷ []))) (written place locals))
 
 abbrev pub write_found : SpecTree → Option ℕ → Option VarRef → Place → ValueTree → Locals → Code
-write_found spec (Some me) (Some var) place v locals = write_typed me var (variable_definition spec var) place v locals
+write_found spec (Some me) (Some var) place v locals = write_typed spec me var (variable_definition spec var) place v locals
 write_found spec _ _ place v locals = fault Undefined place
 
 -- so far a target is a variable of the object alone

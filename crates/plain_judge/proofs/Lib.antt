@@ -1,9 +1,5 @@
 mod Moves
 mod Next
-mod NotedChoices
-mod NotedNodes
-mod Noting
-mod OnlyAsked
 mod Results
 mod Staying
 mod Steps

@@ -1,30 +1,11 @@
 -- Once a thread is over, further answers change nothing.
-use Rattle.std.proofs.Common.{◌≡◌, ℕ, List, [], ◌∷◌, ◌++◌, refl, sym, ap, ◌∙◌}
+use Rattle.std.proofs.Common.{◌≡◌, ℕ, List, [], ◌∷◌, ◌++◌, sym, ap, ◌∙◌}
 use Rattle.abstract_syntax.specs.Classes.{SpecTree}
 use Rattle.abstract_syntax.specs.Expressions.{ExprTree}
 use Rattle.run_journal.specs.declared.answer.Answer.{Answer}
-use Rattle.plans.specs.Plans.{Outcome, gives, faults, needs, meaning, Outlasts}
-use Rattle.plans.proofs.Adding.{reached, run-outlasts}
-use Rattle.node_meaning.specs.Faults.{Fault}
-use Rattle.node_meaning.specs.TaskPlans.{plan_of}
-use Rattle.node_meaning.specs.Tasks.{Flow, Query, noted, needed, spent}
-use Rattle.vdm_meaning.specs.Main.{Standing, over, standing_of, main_plan, main_code, of_thread}
+use Rattle.noted_laws.proofs.Staying.{main-stays}
+use Rattle.vdm_meaning.specs.Main.{Standing, over, main_code}
 use Rattle.plain_judge.specs.Standings.{StaysOver}
-use Rattle.plain_judge.proofs.OnlyAsked.{NeedsOnly}
-use Rattle.plain_judge.proofs.Noting.{IsNoted}
-use Rattle.plain_judge.proofs.NotedNodes.{main-notes}
-
-outlasting : (more : List Answer) (o longer : Outcome Flow Query Answer Fault) → NeedsOnly IsNoted o → Outlasts more o longer → standing_of o ≡ over → standing_of longer ≡ over
-outlasting more (gives flow left units) longer only e h = rw e refl
-outlasting more (faults f []) longer only e h = absurd (cc)
-outlasting more (faults f (a ∷ left)) longer only e h = rw e refl
-outlasting more (needs (noted q)) longer only e h = absurd (cc)
-outlasting more (needs (needed need)) longer only e h = absurd only
-
-main-stays : (spec : SpecTree) (tree : ExprTree) (units : ℕ) → StaysOver (main_code spec tree units)
-main-stays spec tree units taken more h =
-    outlasting more _ _ (main-notes spec tree taken units)
-    (run-outlasts more (meaning (plan_of (of_thread spec)) spent) (λ t bs u. reached (plan_of (of_thread spec)) spent t bs more u) (main_plan spec tree) taken units) h
 
 module _ (f g : List Answer → Standing) where
   stays-same : ((answers : List Answer) → f answers ≡ g answers) → StaysOver g → StaysOver f

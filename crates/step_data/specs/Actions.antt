@@ -1,9 +1,8 @@
 -- What is waiting, what is asked, and what is done next: the plan of each.
-use Rattle.std.specs.Prelude.{ℕ, ◌+◌, List, [], ◌∷◌, length}
+use Rattle.std.specs.Prelude.{ℕ, ◌+◌, [], ◌∷◌, length}
 use Rattle.abstract_syntax.specs.Classes.{SpecTree}
 use Rattle.abstract_syntax.specs.Expressions.{ExprTree}
 use Rattle.expr_tree.specs.View.{view_of}
-use Rattle.vdm_kinds.specs.declared.name.Name.{Name}
 use Rattle.vdm_tree.specs.StmtView.{target_view}
 use Rattle.run_journal.specs.declared.answer.Answer.{Answer}
 use Rattle.run_journal.specs.declared.question.Question.{Question}
@@ -15,7 +14,7 @@ use Rattle.node_meaning.specs.Needs.{Setting, thread, asked, answered_slot}
 use Rattle.node_meaning.specs.Objects.{created, initial_value, initialise}
 use Rattle.node_meaning.specs.Statements.{assigned, called, unless_ended, sequence, return_value, written, write_of}
 use Rattle.node_meaning.specs.Tasks.{Flow as MeantFlow, Code, noted, fault, with_value}
-use Rattle.vdm_meaning.specs.Main.{uncaught, end_with, ended as main_ended, whole_expression, make_class_objects}
+use Rattle.vdm_meaning.specs.Main.{uncaught, ended as main_ended, whole_expression, make_class_objects}
 use Rattle.eval_data.specs.Parts.{here_of, flow_of, need_of}
 use Rattle.eval_data.specs.Steps.{after_need, frame_then}
 use Rattle.eval_data.specs.declared.flow.Flow.TheVariants.{Gave}
@@ -50,7 +49,7 @@ waiting_then spec Called = called
 waiting_then spec (Rest here statements) = unless_ended (sequence (here_of here) (statements_of statements.now))
 waiting_then spec (Assign here target place) = with_value place (assigned spec (here_of here) (target_view target.now) place)
 waiting_then spec (Return place) = with_value place return_value
-waiting_then spec (Body call saved) = ended call.me call.op (call_operation call).result_type call.place saved.items
+waiting_then spec (Body call saved) = ended spec call.me call.op (call_operation call).result_type call.place saved.items
 waiting_then spec (Initial making) = initial_of spec making.value
 waiting_then spec End = main_ended
 
@@ -71,15 +70,15 @@ question_of (New class slots place) = question.New class slots
 question_of (Ending slot) = question.End slot
 
 -- what is done with the answer
-abbrev pub answered_of : Locals → Asking → Answer → Code
-answered_of locals (Class object others class tree) answer = make_class_objects (object + 1) others.now (main_expression (view_of tree.now))
-answered_of locals (Request call) answer = requested call.me call.own call.op (call_operation call) call.place locals answer
-answered_of locals (Activation call) answer = activated call.me call.own call.op (call_operation call) call.place locals answer
-answered_of locals (Finish me op flow) answer = finish (flow_of flow locals)
-answered_of locals (Read me var) answer = answered_slot locals answer
-answered_of locals (Write me var v place) answer = written place locals answer
-answered_of locals (New class slots place) answer = created class place locals answer
-answered_of locals (Ending slot) answer = finish (flow_of (Gave slot) locals)
+abbrev pub answered_of : SpecTree → Locals → Asking → Answer → Code
+answered_of spec locals (Class object others class tree) answer = make_class_objects (object + 1) others.now (main_expression (view_of tree.now))
+answered_of spec locals (Request call) answer = requested spec call.me call.own call.op (call_operation call) call.place locals answer
+answered_of spec locals (Activation call) answer = activated spec call.me call.own call.op (call_operation call) call.place locals answer
+answered_of spec locals (Finish me op flow) answer = finish (flow_of flow locals)
+answered_of spec locals (Read me var) answer = answered_slot locals answer
+answered_of spec locals (Write me var v place) answer = written place locals answer
+answered_of spec locals (New class slots place) answer = created class place locals answer
+answered_of spec locals (Ending slot) answer = finish (flow_of (Gave slot) locals)
 
 -- ---- what is done next
 
@@ -87,7 +86,7 @@ abbrev pub action_code : SpecTree → Locals → Action → Code
 action_code spec locals (Done flow) = finish (flow_of flow locals)
 action_code spec locals (Fail kind place) = fault kind place
 action_code spec locals (Uncaught v place) = fail (uncaught v place)
-action_code spec locals (Ask asking) = ask (noted (question_of asking)) (answered_of locals asking)
+action_code spec locals (Ask asking) = ask (noted (question_of asking)) (answered_of spec locals asking)
 action_code spec locals (Part task waiting) = part (task_of task locals) (waiting_then spec waiting)
 action_code spec locals (Become task) = become (task_of task locals)
 action_code spec locals (Need need place after) = asked (of_thread spec) (need_of need) place locals (after_need after place)

@@ -6,7 +6,6 @@ mod asking;
 mod call;
 mod making;
 mod task;
-mod types;
 mod waiting;
 
 pub use action::Action;
@@ -14,5 +13,4 @@ pub use asking::Asking;
 pub use call::Call;
 pub use making::Making;
 pub use task::Task;
-pub use types::fits;
 pub use waiting::Waiting;

@@ -94,7 +94,7 @@ module _ (spec : SpecTree) where
 
   -- only a thread that is over is over
   pub rest-over : (waiting : List Waiting) (locals : Locals) (fuel : ℕ) (r : Rest) → rest_at spec waiting locals fuel r [] ≡ over → r ≡ Over
-  rest-over waiting locals fuel (Asks asking) e = absurd (cc (e, asking-asks waiting fuel (question_of asking) (answered_of locals asking)))
+  rest-over waiting locals fuel (Asks asking) e = absurd (cc (e, asking-asks waiting fuel (question_of asking) (answered_of spec locals asking)))
   rest-over waiting locals fuel (Fails kind place) e = absurd (cc (e, failing-asks waiting fuel (fault_at kind place)))
   rest-over waiting locals fuel (Exits v place) e = absurd (cc (e, failing-asks waiting fuel (uncaught v place)))
   rest-over waiting locals fuel Over e = refl
@@ -104,7 +104,7 @@ module _ (spec : SpecTree) where
 pub at_rest-asks : (m : Machine) (asking : Asking) → m.rest ≡ Asks asking → rest m [] ≡ asks (question_of asking)
 at_rest-asks m asking e =
     ap (λ r. rest_at (table_spec m.table.now) m.waiting.items m.locals.items m.fuel r []) e
-    ∙ asking-asks (table_spec m.table.now) m.waiting.items m.fuel (question_of asking) (answered_of m.locals.items asking)
+    ∙ asking-asks (table_spec m.table.now) m.waiting.items m.fuel (question_of asking) (answered_of (table_spec m.table.now) m.locals.items asking)
 
 pub at_rest-fails : (m : Machine) (kind : RunFault) (place : Place) → m.rest ≡ Fails kind place → rest m [] ≡ asks (Fail kind Unset place)
 at_rest-fails m kind place e =

@@ -33,7 +33,7 @@ stands spec waiting fuel code answers = standing_of (unwind spec waiting (comes_
 -- A thread that is over asks nothing; one that met want of memory asks what nobody answers.
 abbrev pub rest_at : SpecTree → List Waiting → Locals → ℕ → Rest → List Answer → Standing
 rest_at spec waiting locals fuel (Asks asking) answers =
-    stands spec waiting fuel (ask (noted (question_of asking)) (answered_of locals asking)) answers
+    stands spec waiting fuel (ask (noted (question_of asking)) (answered_of spec locals asking)) answers
 rest_at spec waiting locals fuel (Fails kind place) answers = stands spec waiting fuel (fault kind place) answers
 rest_at spec waiting locals fuel (Exits v place) answers = stands spec waiting fuel (fail (uncaught v place)) answers
 rest_at spec waiting locals fuel Over answers = over

@@ -1,10 +1,14 @@
 // Assignments.
 
-ghost use Rattle.std.specs.Prelude.{◌≡◌, ◌≤◌, option_map, Some};
+ghost use Rattle.std.specs.Prelude.{◌≡◌, ◌≤◌, [], ◌∷◌, IfOk, option_map};
 ghost use Rattle.std.specs.Borrow.{Bor};
 ghost use Rattle.abstract_syntax.specs.Classes.{SpecTree};
 ghost use Rattle.node_meaning.specs.Envs.{Locals};
-ghost use Rattle.node_meaning.specs.Statements.{assigned as assigned_plan, write_found as write_found_plan, write_typed as write_typed_plan, written as written_plan};
+ghost use Rattle.node_meaning.specs.Fitting.{unless_fault};
+ghost use Rattle.node_meaning.specs.Statements.{assigned as assigned_plan, write_found as write_found_plan, write_typed as write_typed_plan, write_of, written as written_plan};
+ghost use Rattle.node_meaning.specs.Tasks.{noted};
+ghost use Rattle.plans.specs.Plans.{ask};
+ghost use Rattle.run_journal.specs.declared.question.Question.TheVariants.{Write};
 ghost use Rattle.vdm_tree.specs.ClassView.{variable_view};
 ghost use Rattle.vdm_tree.specs.StmtView.{target_view};
 ghost use Rattle.vdm_tree.specs.declared.class_def.VarDef.{VarDef as VarDefOf};
@@ -14,28 +18,32 @@ ghost use Rattle.step_data.specs.Actions.{action_code, height};
 ghost use Rattle.stmt_steps.specs.Targets.{target_variable as target_variable_of};
 
 use eval_data::{Flow, Here};
+use fit_steps::type_fault;
 use name_steps::{variable_definition, variable_in};
 use run_journal::Answer;
 use spec_table::ClassTable;
-use step_data::{Action, Asking, fits};
-use vdm_kinds::{Name, Place, RunFault, VarRef};
+use std::alloc::Global;
+use step_data::{Action, Asking};
+use vdm_kinds::{Name, OutOfMemory, Place, RunFault, VarRef};
 use vdm_tree::{Target, VarDef};
 use vdm_values::Value;
 
 /// A value for a target.
 #[tactic(auto, using(crate::proofs::Assigning::assigned_as))]
 pub fn assigned<'t>(
+    alloc: Global,
     table: &'t ClassTable,
     here: Here<'t>,
     target: &'t Target,
     place: Place,
     value: Value,
-) -> Action<'t>
-    ensures same { (locals : Locals) → action_code (table_spec table.now) locals result ≡ assigned_plan (table_spec table.now) (here_of here.entry) (target_view target.now) place value locals }
-    ensures falls { height result ≤ 2 }
+) -> Result<Action<'t>, OutOfMemory>
+    ensures same { IfOk result (λ a. (locals : Locals) → action_code (table_spec table.now) locals a ≡ assigned_plan (table_spec table.now) (here_of here.entry) (target_view target.now) place value locals) }
+    ensures falls { IfOk result (λ a. height a ≤ 2) }
 {
     let var = target_variable(table, here.scope, target);
-    write_found(table, here.me, var, place, value)
+    let action = write_found(alloc, table, here.me, var, place, value)?;
+    Ok(action)
 }
 
 /// The variable that a target names. So far a target is a variable of the object alone.
@@ -53,41 +61,61 @@ fn target_variable(table: &ClassTable, scope: Option<Name>, target: &Target) -> 
 
 /// A value for a variable of the object.
 fn write_found<'t>(
+    alloc: Global,
     table: &'t ClassTable,
     me: Option<u32>,
     var: Option<VarRef>,
     place: Place,
     value: Value,
-) -> Action<'t>
-    ensures same { (locals : Locals) → action_code (table_spec table.now) locals result ≡ write_found_plan (table_spec table.now) me var place value locals }
-    ensures falls { height result ≤ 2 }
+) -> Result<Action<'t>, OutOfMemory>
+    ensures same { IfOk result (λ a. (locals : Locals) → action_code (table_spec table.now) locals a ≡ write_found_plan (table_spec table.now) me var place value locals) }
+    ensures falls { IfOk result (λ a. height a ≤ 2) }
 {
     match (me, var) {
         (Some(me), Some(var)) => {
-            write_typed(me, var, variable_definition(table, &var), place, value)
+            let definition = variable_definition(table, &var);
+            let action = write_typed(alloc, table, me, var, definition, place, value)?;
+            Ok(action)
         }
-        _ => Action::Fail(RunFault::Undefined, place),
+        _ => Ok(Action::Fail(RunFault::Undefined, place)),
     }
 }
 
 /// The value is tested against the variable's type, and then written.
 fn write_typed<'t>(
+    alloc: Global,
+    table: &ClassTable,
     me: u32,
     var: VarRef,
     definition: Option<&VarDef>,
     place: Place,
     value: Value,
-) -> Action<'t>
-    ensures same { (spec : SpecTree) (locals : Locals) → action_code spec locals result ≡ write_typed_plan me var (option_map (λ (v : Bor VarDefOf). variable_view v.now) definition.entry) place value locals }
-    ensures falls { height result ≤ 2 }
+) -> Result<Action<'t>, OutOfMemory>
+    ensures same { IfOk result (λ a. (locals : Locals) → action_code (table_spec table.now) locals a ≡ write_typed_plan (table_spec table.now) me var (option_map (λ (v : Bor VarDefOf). variable_view v.now) definition.entry) place value locals) }
+    ensures falls { IfOk result (λ a. height a ≤ 2) }
 {
     let Some(definition) = definition else {
-        return Action::Fail(RunFault::Undefined, place);
+        return Ok(Action::Fail(RunFault::Undefined, place));
     };
-    if !fits(&definition.declared, &value) {
-        return Action::Fail(RunFault::TypeFault, place);
+    let fault = type_fault(alloc, table, Some(var.class), &definition.declared, &value)?;
+    Ok(asked_for(me, var, place, value, fault))
+}
+
+/// A fault of the value stands at the place; else the write is asked for.
+fn asked_for<'t>(
+    me: u32,
+    var: VarRef,
+    place: Place,
+    value: Value,
+    fault: Option<RunFault>,
+) -> Action<'t>
+    ensures same { (spec : SpecTree) (locals : Locals) → action_code spec locals result ≡ unless_fault place fault (ask (noted (Write me (write_of var value ∷ []))) (written_plan place locals)) }
+    ensures falls { height result ≤ 2 }
+{
+    match fault {
+        None => Action::Ask(Asking::Write(me, var, value, place)),
+        Some(fault) => Action::Fail(fault, place),
     }
-    Action::Ask(Asking::Write(me, var, value, place))
 }
 
 /// What follows a write. One that was refused breaks an instance invariant.

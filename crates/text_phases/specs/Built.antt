@@ -1,21 +1,22 @@
 -- What is built: the forms that have a meaning so far. Any other form is left out, and the first in text order is the fault's place.
-use Rattle.std.specs.Prelude.{◌≡◌, Bool, true, false, not, ◌&&◌, nat_eq, if◌then◌else◌, List, [], ◌∷◌, Option, Some, None}
+use Rattle.std.specs.Prelude.{◌≡◌, Bool, true, false, not, ◌&&◌, ◌||◌, nat_eq, if◌then◌else◌, List, [], ◌∷◌, Option, Some, None}
+use Rattle.vdm_kinds.specs.NameList.{io}
 use Rattle.vdm_kinds.specs.declared.access.Access.{Access}
 use Rattle.vdm_kinds.specs.declared.access.Level.{Level}
 use Rattle.vdm_kinds.specs.declared.access.Level.TheVariants.{Private, Protected, Public}
-use Rattle.vdm_kinds.specs.declared.basic_type.BasicType.TheVariants.{Token}
 use Rattle.vdm_kinds.specs.declared.name.Name.{Name}
 use Rattle.vdm_kinds.specs.declared.name_at.NameAt.{NameAt}
 use Rattle.vdm_kinds.specs.declared.place.Place.{Place}
 use Rattle.vdm_kinds.specs.declared.spec_fault.SpecFault.{SpecFault}
 use Rattle.vdm_kinds.specs.declared.spec_kind.SpecKind.TheVariants.{LeftOut}
 use Rattle.vdm_lexer.specs.Lexemes.{fault_at}
-use Rattle.abstract_syntax.specs.Types.{TypeTree, basic_type, type_place}
+use Rattle.abstract_syntax.specs.Types.{TypeTree, type_place}
 use Rattle.abstract_syntax.specs.Expressions.{
   ExprTree,
   ExprTrees,
   MaybeExpr,
   MapletTrees,
+  FieldValueTrees,
   DefinedTrees,
   BranchTrees,
   CaseTrees,
@@ -26,7 +27,9 @@ use Rattle.abstract_syntax.specs.Expressions.{
   MapletPatterns,
   literal,
   named,
+  qualified,
   undefined,
+  result_value,
   bracketed,
   prefixed,
   joined,
@@ -40,6 +43,11 @@ use Rattle.abstract_syntax.specs.Expressions.{
   sequence_comprehension,
   make_tuple,
   make_token,
+  make_record,
+  modify_record,
+  is_of_type,
+  is_of_named,
+  is_of_basic,
   create,
   apply,
   subsequence,
@@ -61,6 +69,8 @@ use Rattle.abstract_syntax.specs.Expressions.{
   given_expr,
   no_maplets,
   one_maplet,
+  no_field_values,
+  one_field_value,
   no_defined,
   one_defined,
   no_branches,
@@ -107,6 +117,9 @@ use Rattle.abstract_syntax.specs.Statements.{
   stmt_place,
 }
 use Rattle.abstract_syntax.specs.Classes.{
+  InvariantTree,
+  TypeDefTree,
+  ValueDefTree,
   VariableTree,
   VariableItem,
   variable_item,
@@ -115,6 +128,7 @@ use Rattle.abstract_syntax.specs.Classes.{
   written,
   not_yet_specified,
   subclass_responsibility,
+  FunctionTree,
   OperationTree,
   BlockTree,
   types,
@@ -128,6 +142,7 @@ use Rattle.abstract_syntax.specs.Classes.{
   SpecTree,
   is_same_name,
 }
+use Rattle.class_meaning.specs.Classes.{print, println}
 
 -- what stands first: the one in front, where there is one
 abbrev pub or_behind : {A : Type 0} → Option A → Option A → Option A
@@ -137,6 +152,14 @@ or_behind (Some found) behind = Some found
 -- nothing where the test holds, and else the place
 abbrev pub unless : Bool → Place → Option Place
 unless built place = if built then None else Some place
+
+-- the one class that is there before any text has no meaning yet
+abbrev pub unbuilt_of_io : Name → Place → Option Place
+unbuilt_of_io class place = unless (not (is_same_name class io)) place
+
+-- `IO` has these operations, and they have no meaning yet either
+abbrev pub is_printing : Name → Bool
+is_printing name = is_same_name name print || is_same_name name println
 
 -- ---- expressions and patterns
 
@@ -155,112 +178,124 @@ abbrev pub in_arguments : ExprTrees → Option Place
 in_arguments no_exprs = None
 in_arguments (one_expr argument others) = Some (expr_first argument)
 
-abbrev pub has_none : ExprTrees → Bool
-has_none no_exprs = true
-has_none (one_expr argument others) = false
+-- the place of a selection by such a name
+abbrev pub print_place : ExprTree → Option Place
+print_place (select target name name_place place) = unless (not (is_printing name)) place
+print_place head = None
 
--- no type of what a `let` defines is built
-abbrev pub unbuilt_in_declared : Option TypeTree → Option Place
-unbuilt_in_declared None = None
-unbuilt_in_declared (Some declared) = Some (type_place declared)
+-- with arguments it may ask an object of `IO` to print
+abbrev pub in_print : ExprTree → ExprTrees → Option Place
+in_print head no_exprs = None
+in_print head (one_expr argument others) = print_place head
 
 abbrev mutual
-  -- The first node that is not built, in text order: a selection is looked at behind what it selects from, and is built only where it
-  -- is called without arguments; what is not built and not listed here is looked at before its parts.
-  pub first_unbuilt : (called : Bool) → ExprTree → Option Place
-  first_unbuilt called (literal value place) = None
-  first_unbuilt called (named name place) = None
-  first_unbuilt called (undefined place) = None
-  first_unbuilt called (bracketed inner place) = first_unbuilt false inner
-  first_unbuilt called (prefixed sign operand place) = first_unbuilt false operand
-  first_unbuilt called (joined left sign right place) = or_behind (first_unbuilt false left) (first_unbuilt false right)
-  first_unbuilt called (set_enumeration elements place) = unbuilt_in_exprs elements
-  first_unbuilt called (set_range first last place) = or_behind (first_unbuilt false first) (first_unbuilt false last)
-  first_unbuilt called (set_comprehension element binds condition place) =
-      or_behind (first_unbuilt false element) (or_behind (unbuilt_in_binds binds) (unbuilt_in_maybe condition))
-  first_unbuilt called (empty_map place) = None
-  first_unbuilt called (map_enumeration pairs place) = unbuilt_in_maplets pairs
-  first_unbuilt called (map_comprehension key value binds condition place) =
-      or_behind (first_unbuilt false key)
-      (or_behind (first_unbuilt false value) (or_behind (unbuilt_in_binds binds) (unbuilt_in_maybe condition)))
-  first_unbuilt called (sequence_enumeration items place) = unbuilt_in_exprs items
-  first_unbuilt called (sequence_comprehension item pattern set condition place) =
-      or_behind (first_unbuilt false item)
-      (or_behind (unbuilt_in_pattern pattern) (or_behind (first_unbuilt false set) (unbuilt_in_maybe condition)))
-  first_unbuilt called (make_tuple parts place) = unbuilt_in_exprs parts
-  first_unbuilt called (make_token inner place) = first_unbuilt false inner
-  first_unbuilt called (create class class_place arguments place) = in_arguments arguments
-  first_unbuilt called (apply head arguments place) = or_behind (first_unbuilt (has_none arguments) head) (unbuilt_in_exprs arguments)
-  first_unbuilt called (subsequence target first last place) =
-      or_behind (first_unbuilt false target) (or_behind (first_unbuilt false first) (first_unbuilt false last))
-  first_unbuilt called (select target name name_place place) = or_behind (first_unbuilt false target) (unless called place)
-  first_unbuilt called (select_of_class target class class_place name name_place place) = or_behind (first_unbuilt false target) (Some place)
-  first_unbuilt called (select_part target number place) = first_unbuilt false target
-  first_unbuilt called (let_in definitions body place) = or_behind (unbuilt_in_defined definitions) (first_unbuilt false body)
-  first_unbuilt called (let_be bind condition body place) =
-      or_behind (unbuilt_in_bind bind) (or_behind (unbuilt_in_maybe condition) (first_unbuilt false body))
-  first_unbuilt called (def_in pattern value body place) =
-      or_behind (unbuilt_in_pattern pattern) (or_behind (first_unbuilt false value) (first_unbuilt false body))
-  first_unbuilt called (if_else condition value elseifs otherwise place) =
-      or_behind (first_unbuilt false condition)
-      (or_behind (first_unbuilt false value) (or_behind (unbuilt_in_branches elseifs) (first_unbuilt false otherwise)))
-  first_unbuilt called (cases_of subject cases others place) =
-      or_behind (first_unbuilt false subject) (or_behind (unbuilt_in_cases cases) (unbuilt_in_maybe others))
-  first_unbuilt called (for_all binds condition place) = or_behind (unbuilt_in_binds binds) (first_unbuilt false condition)
-  first_unbuilt called (exists_some binds condition place) = or_behind (unbuilt_in_binds binds) (first_unbuilt false condition)
-  first_unbuilt called (exists_one bind condition place) = or_behind (unbuilt_in_bind bind) (first_unbuilt false condition)
-  first_unbuilt called (iota_of bind condition place) = or_behind (unbuilt_in_bind bind) (first_unbuilt false condition)
-  first_unbuilt called tree = Some (expr_place tree)
+  -- The first node that is not built, in text order: a selection of a class's member, and one by which an object may print, is looked at
+  -- behind what it selects from; what is not built and not listed here is looked at before its parts.
+  pub unbuilt_in_expr : ExprTree → Option Place
+  unbuilt_in_expr (literal value place) = None
+  unbuilt_in_expr (named name place) = None
+  unbuilt_in_expr (qualified class name name_place place) = unbuilt_of_io class place
+  unbuilt_in_expr (undefined place) = None
+  unbuilt_in_expr (result_value place) = None
+  unbuilt_in_expr (bracketed inner place) = unbuilt_in_expr inner
+  unbuilt_in_expr (prefixed sign operand place) = unbuilt_in_expr operand
+  unbuilt_in_expr (joined left sign right place) = or_behind (unbuilt_in_expr left) (unbuilt_in_expr right)
+  unbuilt_in_expr (set_enumeration elements place) = unbuilt_in_exprs elements
+  unbuilt_in_expr (set_range first last place) = or_behind (unbuilt_in_expr first) (unbuilt_in_expr last)
+  unbuilt_in_expr (set_comprehension element binds condition place) =
+      or_behind (unbuilt_in_expr element) (or_behind (unbuilt_in_binds binds) (unbuilt_in_maybe condition))
+  unbuilt_in_expr (empty_map place) = None
+  unbuilt_in_expr (map_enumeration pairs place) = unbuilt_in_maplets pairs
+  unbuilt_in_expr (map_comprehension key value binds condition place) =
+      or_behind (unbuilt_in_expr key)
+      (or_behind (unbuilt_in_expr value) (or_behind (unbuilt_in_binds binds) (unbuilt_in_maybe condition)))
+  unbuilt_in_expr (sequence_enumeration items place) = unbuilt_in_exprs items
+  unbuilt_in_expr (sequence_comprehension item pattern set condition place) =
+      or_behind (unbuilt_in_expr item)
+      (or_behind (unbuilt_in_pattern pattern) (or_behind (unbuilt_in_expr set) (unbuilt_in_maybe condition)))
+  unbuilt_in_expr (make_tuple parts place) = unbuilt_in_exprs parts
+  unbuilt_in_expr (make_token inner place) = unbuilt_in_expr inner
+  unbuilt_in_expr (make_record type_name fields place) = unbuilt_in_exprs fields
+  unbuilt_in_expr (modify_record target fields place) = or_behind (unbuilt_in_expr target) (unbuilt_in_field_values fields)
+  unbuilt_in_expr (is_of_type tested declared place) = unbuilt_in_expr tested
+  unbuilt_in_expr (is_of_named type_name tested place) = unbuilt_in_expr tested
+  unbuilt_in_expr (is_of_basic basic tested place) = unbuilt_in_expr tested
+  unbuilt_in_expr (create class class_place arguments place) = in_arguments arguments
+  unbuilt_in_expr (apply head arguments place) =
+      or_behind (unbuilt_in_expr head) (or_behind (in_print head arguments) (unbuilt_in_exprs arguments))
+  unbuilt_in_expr (subsequence target first last place) =
+      or_behind (unbuilt_in_expr target) (or_behind (unbuilt_in_expr first) (unbuilt_in_expr last))
+  unbuilt_in_expr (select target name name_place place) = unbuilt_in_expr target
+  unbuilt_in_expr (select_of_class target class class_place name name_place place) = or_behind (unbuilt_in_expr target) (Some place)
+  unbuilt_in_expr (select_part target number place) = unbuilt_in_expr target
+  unbuilt_in_expr (let_in definitions body place) = or_behind (unbuilt_in_defined definitions) (unbuilt_in_expr body)
+  unbuilt_in_expr (let_be bind condition body place) =
+      or_behind (unbuilt_in_bind bind) (or_behind (unbuilt_in_maybe condition) (unbuilt_in_expr body))
+  unbuilt_in_expr (def_in pattern value body place) =
+      or_behind (unbuilt_in_pattern pattern) (or_behind (unbuilt_in_expr value) (unbuilt_in_expr body))
+  unbuilt_in_expr (if_else condition value elseifs otherwise place) =
+      or_behind (unbuilt_in_expr condition)
+      (or_behind (unbuilt_in_expr value) (or_behind (unbuilt_in_branches elseifs) (unbuilt_in_expr otherwise)))
+  unbuilt_in_expr (cases_of subject cases others place) =
+      or_behind (unbuilt_in_expr subject) (or_behind (unbuilt_in_cases cases) (unbuilt_in_maybe others))
+  unbuilt_in_expr (for_all binds condition place) = or_behind (unbuilt_in_binds binds) (unbuilt_in_expr condition)
+  unbuilt_in_expr (exists_some binds condition place) = or_behind (unbuilt_in_binds binds) (unbuilt_in_expr condition)
+  unbuilt_in_expr (exists_one bind condition place) = or_behind (unbuilt_in_bind bind) (unbuilt_in_expr condition)
+  unbuilt_in_expr (iota_of bind condition place) = or_behind (unbuilt_in_bind bind) (unbuilt_in_expr condition)
+  unbuilt_in_expr tree = Some (expr_place tree)
 
   -- that of the first that has one; so with all lists
   pub unbuilt_in_exprs : ExprTrees → Option Place
   unbuilt_in_exprs no_exprs = None
-  unbuilt_in_exprs (one_expr e es) = or_behind (first_unbuilt false e) (unbuilt_in_exprs es)
+  unbuilt_in_exprs (one_expr e es) = or_behind (unbuilt_in_expr e) (unbuilt_in_exprs es)
 
   pub unbuilt_in_maybe : MaybeExpr → Option Place
   unbuilt_in_maybe left_out = None
-  unbuilt_in_maybe (given_expr e) = first_unbuilt false e
+  unbuilt_in_maybe (given_expr e) = unbuilt_in_expr e
 
   pub unbuilt_in_maplets : MapletTrees → Option Place
   unbuilt_in_maplets no_maplets = None
   unbuilt_in_maplets (one_maplet key value pairs) =
-      or_behind (first_unbuilt false key) (or_behind (first_unbuilt false value) (unbuilt_in_maplets pairs))
+      or_behind (unbuilt_in_expr key) (or_behind (unbuilt_in_expr value) (unbuilt_in_maplets pairs))
+
+  pub unbuilt_in_field_values : FieldValueTrees → Option Place
+  unbuilt_in_field_values no_field_values = None
+  unbuilt_in_field_values (one_field_value name name_place value fields) =
+      or_behind (unbuilt_in_expr value) (unbuilt_in_field_values fields)
 
   pub unbuilt_in_defined : DefinedTrees → Option Place
   unbuilt_in_defined no_defined = None
   unbuilt_in_defined (one_defined pattern declared value definitions) =
-      or_behind (unbuilt_in_pattern pattern)
-      (or_behind (unbuilt_in_declared declared) (or_behind (first_unbuilt false value) (unbuilt_in_defined definitions)))
+      or_behind (unbuilt_in_pattern pattern) (or_behind (unbuilt_in_expr value) (unbuilt_in_defined definitions))
 
   pub unbuilt_in_branches : BranchTrees → Option Place
   unbuilt_in_branches no_branches = None
   unbuilt_in_branches (one_branch condition value others) =
-      or_behind (first_unbuilt false condition) (or_behind (first_unbuilt false value) (unbuilt_in_branches others))
+      or_behind (unbuilt_in_expr condition) (or_behind (unbuilt_in_expr value) (unbuilt_in_branches others))
 
   pub unbuilt_in_cases : CaseTrees → Option Place
   unbuilt_in_cases no_cases = None
   unbuilt_in_cases (one_case patterns value cases) =
-      or_behind (unbuilt_in_patterns patterns) (or_behind (first_unbuilt false value) (unbuilt_in_cases cases))
+      or_behind (unbuilt_in_patterns patterns) (or_behind (unbuilt_in_expr value) (unbuilt_in_cases cases))
 
   pub unbuilt_in_bind : BindTree → Option Place
-  unbuilt_in_bind (bind_in patterns set) = or_behind (unbuilt_in_patterns patterns) (first_unbuilt false set)
+  unbuilt_in_bind (bind_in patterns set) = or_behind (unbuilt_in_patterns patterns) (unbuilt_in_expr set)
 
   pub unbuilt_in_binds : BindTrees → Option Place
   unbuilt_in_binds no_binds = None
   unbuilt_in_binds (one_bind bind binds) = or_behind (unbuilt_in_bind bind) (unbuilt_in_binds binds)
 
-  -- no record pattern is built
   pub unbuilt_in_pattern : PatternTree → Option Place
   unbuilt_in_pattern (any_value place) = None
   unbuilt_in_pattern (bound name place) = None
   unbuilt_in_pattern (literal_pattern value place) = None
-  unbuilt_in_pattern (equal_to inner place) = first_unbuilt false inner
+  unbuilt_in_pattern (equal_to inner place) = unbuilt_in_expr inner
   unbuilt_in_pattern (set_pattern elements place) = unbuilt_in_patterns elements
   unbuilt_in_pattern (sequence_pattern items place) = unbuilt_in_patterns items
   unbuilt_in_pattern (map_pattern maplets place) = unbuilt_in_maplet_patterns maplets
   unbuilt_in_pattern (empty_map_pattern place) = None
   unbuilt_in_pattern (tuple_pattern parts place) = unbuilt_in_patterns parts
-  unbuilt_in_pattern (record_pattern type_name fields place) = Some place
+  unbuilt_in_pattern (record_pattern type_name fields place) = unbuilt_in_patterns fields
   unbuilt_in_pattern (concatenation_pattern parts place) = unbuilt_in_patterns parts
 
   pub unbuilt_in_patterns : PatternTrees → Option Place
@@ -271,9 +306,6 @@ abbrev mutual
   unbuilt_in_maplet_patterns no_maplet_patterns = None
   unbuilt_in_maplet_patterns (one_maplet_pattern key value maplets) =
       or_behind (unbuilt_in_pattern key) (or_behind (unbuilt_in_pattern value) (unbuilt_in_maplet_patterns maplets))
-
-abbrev pub unbuilt_in_expr : ExprTree → Option Place
-unbuilt_in_expr tree = first_unbuilt false tree
 
 -- a call statement is an application
 abbrev pub unbuilt_in_call : ExprTree → Option Place
@@ -326,13 +358,48 @@ abbrev pub unbuilt_in_block : StmtTree → Option Place
 unbuilt_in_block (block locals statements place) = or_behind (unbuilt_in_locals locals) (unbuilt_to_return place statements)
 unbuilt_in_block statement = Some (stmt_place statement)
 
--- ---- variables and operations
+-- ---- types, values and functions
 
--- the types are `bool`, `nat`, `nat1`, `int` and `char`
-abbrev pub unbuilt_in_type : TypeTree → Option Place
-unbuilt_in_type (basic_type Token place) = Some place
-unbuilt_in_type (basic_type basic place) = None
-unbuilt_in_type declared = Some (type_place declared)
+-- no invariant of a type is built
+abbrev pub unbuilt_in_invariant : Option InvariantTree → Option Place
+unbuilt_in_invariant None = None
+unbuilt_in_invariant (Some i) = Some (pattern_place i.pattern)
+
+abbrev pub unbuilt_in_types : List TypeDefTree → Option Place
+unbuilt_in_types [] = None
+unbuilt_in_types (t ∷ ts) = or_behind (unbuilt_in_invariant t.invariant) (unbuilt_in_types ts)
+
+abbrev pub unbuilt_in_values : List ValueDefTree → Option Place
+unbuilt_in_values [] = None
+unbuilt_in_values (v ∷ vs) = or_behind (unbuilt_in_expr v.value) (unbuilt_in_values vs)
+
+-- that of patterns one after the other
+abbrev pub unbuilt_in_each_pattern : List PatternTree → Option Place
+unbuilt_in_each_pattern [] = None
+unbuilt_in_each_pattern (pattern ∷ patterns) = or_behind (unbuilt_in_pattern pattern) (unbuilt_in_each_pattern patterns)
+
+-- a body that isn't written is built
+abbrev pub unbuilt_if_written : Body ExprTree → Option Place
+unbuilt_if_written (written body) = unbuilt_in_expr body
+unbuilt_if_written not_yet_specified = None
+unbuilt_if_written subclass_responsibility = None
+
+-- a part that may be left out
+abbrev pub unbuilt_if_given : Option ExprTree → Option Place
+unbuilt_if_given None = None
+unbuilt_if_given (Some part) = unbuilt_in_expr part
+
+-- what is evaluated of a function: its `measure` never is
+abbrev pub unbuilt_in_function : FunctionTree → Option Place
+unbuilt_in_function f =
+    or_behind (unbuilt_in_each_pattern f.patterns)
+    (or_behind (unbuilt_if_written f.body) (or_behind (unbuilt_if_given f.pre) (unbuilt_if_given f.post)))
+
+abbrev pub unbuilt_in_functions : List FunctionTree → Option Place
+unbuilt_in_functions [] = None
+unbuilt_in_functions (f ∷ fs) = or_behind (unbuilt_in_function f) (unbuilt_in_functions fs)
+
+-- ---- variables and operations
 
 abbrev pub is_same_place : Place → Place → Bool
 is_same_place a b = nat_eq a.line b.line && nat_eq a.column b.column
@@ -342,16 +409,11 @@ abbrev pub lacks_initial : Option ExprTree → Place → Option Place
 lacks_initial None place = Some place
 lacks_initial (Some value) place = None
 
-abbrev pub unbuilt_in_initial : Option ExprTree → Option Place
-unbuilt_in_initial None = None
-unbuilt_in_initial (Some value) = unbuilt_in_expr value
-
 -- a variable begins with its name, with no word of access, and has an initial value
 abbrev pub unbuilt_in_variable : VariableTree → Option Place
 unbuilt_in_variable v =
     or_behind (unless (is_same_place v.place v.name_place) v.place)
-    (or_behind (lacks_initial v.initial v.place)
-    (or_behind (unbuilt_in_type v.declared) (unbuilt_in_initial v.initial)))
+    (or_behind (lacks_initial v.initial v.place) (unbuilt_if_given v.initial))
 
 abbrev pub unbuilt_in_item : VariableItem → Option Place
 unbuilt_in_item (variable_item v) = unbuilt_in_variable v
@@ -385,10 +447,6 @@ abbrev pub unbuilt_in_parameter_patterns : List PatternTree → Option Place
 unbuilt_in_parameter_patterns [] = None
 unbuilt_in_parameter_patterns (pattern ∷ patterns) = Some (pattern_place pattern)
 
-abbrev pub unbuilt_in_result : Option TypeTree → Option Place
-unbuilt_in_result None = None
-unbuilt_in_result (Some declared) = unbuilt_in_type declared
-
 -- a body without a result returns nothing, and one with a result returns a value at its end
 abbrev pub unbuilt_in_body : Option TypeTree → Body StmtTree → Option Place
 unbuilt_in_body None (written body) = unbuilt_in_stmt body
@@ -409,8 +467,7 @@ abbrev pub unbuilt_in_head : Name → OperationTree → Option Place
 unbuilt_in_head class o =
     or_behind (unless (is_public o.access && not (is_constructor class o)) o.place)
     (or_behind (lacks_body o.body o.place)
-    (or_behind (unbuilt_in_parameters o.parameters)
-    (or_behind (unbuilt_in_result o.result_type) (unbuilt_in_parameter_patterns o.patterns))))
+    (or_behind (unbuilt_in_parameters o.parameters) (unbuilt_in_parameter_patterns o.patterns)))
 
 -- behind it stand the body, and no condition
 abbrev pub unbuilt_behind_head : OperationTree → Option Place
@@ -428,47 +485,48 @@ unbuilt_in_operations class (definition ∷ definitions) =
 
 -- ---- classes
 
-abbrev pub block_place : BlockTree → Place
-block_place (types definitions place) = place
-block_place (values definitions place) = place
-block_place (variables items place) = place
-block_place (functions definitions place) = place
-block_place (operations definitions place) = place
-block_place (thread_of thread place) = place
-block_place (synchronisation clauses place) = place
+-- a block of the class with this name: variables and operations are built only where the class stands alone
+abbrev pub unbuilt_in_class_block : (alone : Bool) → Name → BlockTree → Option Place
+unbuilt_in_class_block alone class (types definitions place) = unbuilt_in_types definitions
+unbuilt_in_class_block alone class (values definitions place) = unbuilt_in_values definitions
+unbuilt_in_class_block alone class (variables items place) = or_behind (unless alone place) (unbuilt_in_items items)
+unbuilt_in_class_block alone class (functions definitions place) = unbuilt_in_functions definitions
+unbuilt_in_class_block alone class (operations definitions place) = or_behind (unless alone place) (unbuilt_in_operations class definitions)
+unbuilt_in_class_block alone class (thread_of thread place) = Some place
+unbuilt_in_class_block alone class (synchronisation clauses place) = Some place
 
--- no further block is built
-abbrev pub unbuilt_in_rest : List BlockTree → Option Place
-unbuilt_in_rest [] = None
-unbuilt_in_rest (found ∷ blocks) = Some (block_place found)
+abbrev pub unbuilt_in_class_blocks : (alone : Bool) → Name → List BlockTree → Option Place
+unbuilt_in_class_blocks alone class [] = None
+unbuilt_in_class_blocks alone class (found ∷ blocks) = or_behind (unbuilt_in_class_block alone class found) (unbuilt_in_class_blocks alone class blocks)
 
--- behind the variables: one block of operations, with one or more
-abbrev pub unbuilt_behind : Name → List BlockTree → Option Place
-unbuilt_behind class (operations (definition ∷ definitions) place ∷ blocks) =
-    or_behind (unbuilt_in_operations class (definition ∷ definitions)) (unbuilt_in_rest blocks)
-unbuilt_behind class blocks = unbuilt_in_rest blocks
-
--- first one block of variables, with one or more
-abbrev pub unbuilt_in_blocks : Name → List BlockTree → Option Place
-unbuilt_in_blocks class (variables (item ∷ items) place ∷ blocks) = or_behind (unbuilt_in_items (item ∷ items)) (unbuilt_behind class blocks)
-unbuilt_in_blocks class blocks = unbuilt_behind class blocks
-
--- no class has a superclass
 abbrev pub unbuilt_in_superclasses : List NameAt → Option Place
 unbuilt_in_superclasses [] = None
-unbuilt_in_superclasses (superclass ∷ superclasses) = Some superclass.place
+unbuilt_in_superclasses (superclass ∷ superclasses) =
+    or_behind (unbuilt_of_io superclass.name superclass.place) (unbuilt_in_superclasses superclasses)
 
-abbrev pub unbuilt_in_class : ClassTree → Option Place
-unbuilt_in_class class = or_behind (unbuilt_in_superclasses class.superclasses) (unbuilt_in_blocks class.name class.blocks)
+abbrev pub unbuilt_in_class : (alone : Bool) → ClassTree → Option Place
+unbuilt_in_class alone class =
+    or_behind (unbuilt_in_superclasses class.superclasses) (unbuilt_in_class_blocks alone class.name class.blocks)
 
--- no class, or one
-abbrev pub unbuilt_in_classes : List ClassTree → Option Place
-unbuilt_in_classes [] = None
-unbuilt_in_classes (class ∷ []) = unbuilt_in_class class
-unbuilt_in_classes (class ∷ other ∷ classes) = or_behind (unbuilt_in_class class) (Some other.place)
+abbrev pub unbuilt_in_classes : (alone : Bool) → List ClassTree → Option Place
+unbuilt_in_classes alone [] = None
+unbuilt_in_classes alone (class ∷ classes) = or_behind (unbuilt_in_class alone class) (unbuilt_in_classes alone classes)
+
+abbrev pub has_none : List NameAt → Bool
+has_none [] = true
+has_none (superclass ∷ superclasses) = false
+
+-- there is one class, and it has no superclass
+abbrev pub are_alone : List ClassTree → Bool
+are_alone [] = false
+are_alone (class ∷ []) = has_none class.superclasses
+are_alone (class ∷ other ∷ classes) = false
+
+abbrev pub stands_alone : SpecTree → Bool
+stands_alone spec = are_alone spec.classes
 
 abbrev pub unbuilt_in_spec : SpecTree → Option Place
-unbuilt_in_spec spec = unbuilt_in_classes spec.classes
+unbuilt_in_spec spec = unbuilt_in_classes (stands_alone spec) spec.classes
 
 -- what has no meaning yet of a specification and an expression behind it is left out
 abbrev pub left_out_at : Option Place → Option SpecFault

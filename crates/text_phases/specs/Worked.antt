@@ -3,14 +3,15 @@ use Rattle.std.specs.Prelude.{ℕ, ◌+◌, pos, true, false, List, [], ◌∷�
 use Rattle.vdm_kinds.specs.declared.access.Level.TheVariants.{Private, Public}
 use Rattle.vdm_kinds.specs.declared.basic_type.BasicType.TheVariants.{Nat}
 use Rattle.vdm_kinds.specs.declared.name.Name.{Name}
+use Rattle.vdm_kinds.specs.declared.name_at.TypeName.{TypeName}
 use Rattle.vdm_kinds.specs.declared.part.Part.TheVariants.{Spec}
 use Rattle.vdm_kinds.specs.declared.place.Place.{Place}
 use Rattle.vdm_kinds.specs.declared.sign.Sign.{Sign}
 use Rattle.abstract_syntax.specs.Literals.{whole_literal, boolean_literal}
 use Rattle.abstract_syntax.specs.Types.{TypeTree, basic_type}
-use Rattle.abstract_syntax.specs.Expressions.{ExprTree, ExprTrees, PatternTree, BindTrees, literal, named, joined, create, apply, select, no_exprs, one_expr, bind_in, no_binds, one_bind, record_pattern, no_patterns, one_pattern}
+use Rattle.abstract_syntax.specs.Expressions.{ExprTree, ExprTrees, PatternTree, BindTrees, literal, named, self_object, joined, create, apply, select, no_exprs, one_expr, bind_in, no_binds, one_bind, equal_to, record_pattern, no_patterns, one_pattern}
 use Rattle.abstract_syntax.specs.Statements.{variable, StmtTree, StmtTrees, assign, call, block, returns, no_stmts, one_stmt}
-use Rattle.abstract_syntax.specs.Classes.{VariableTree, variable_item, written, OperationTree, BlockTree, variables, operations, ClassTree, SpecTree}
+use Rattle.abstract_syntax.specs.Classes.{TypeDefTree, same_as, ValueDefTree, VariableTree, variable_item, written, FunctionTree, OperationTree, BlockTree, variables, operations, ClassTree, SpecTree}
 
 abbrev pub at : ℕ → Place
 at column = record { part = Spec; line = 1; column = column }
@@ -58,9 +59,14 @@ an_argument column = one_expr (one column) no_exprs
 abbrev pub call_of_new : ExprTrees → ExprTree
 call_of_new arguments = applied (selected (new_of no_exprs 1) op 8) arguments 11
 
--- a record pattern of a type of one letter, from this column on
+-- a type of one letter, named behind `mk_` or `is_` in this column
+abbrev pub type_at : ℕ → TypeName
+type_at column = record { class = None; name = op; name_place = at column }
+
+-- `mk_R((self))` as a pattern, from this column on: what is not built stands six columns behind it
 abbrev pub record_at : ℕ → PatternTree
-record_at column = record_pattern (record { class = None; name = op; name_place = at column }) no_patterns (at column)
+record_at column =
+    record_pattern (type_at column) (one_pattern (equal_to (self_object (at (column + 6))) (at (column + 5))) no_patterns) (at column)
 
 abbrev pub a_bind : PatternTree → ExprTree → BindTrees
 a_bind pattern set = one_bind (bind_in (one_pattern pattern no_patterns) set) no_binds
@@ -115,11 +121,59 @@ an_operation name result body column = record {
   place = at column;
 }
 
+-- `T = nat`, from this column on
+abbrev pub a_type : ℕ → TypeDefTree
+a_type column = record {
+  access = record { is_static = false; level = Private };
+  class = class_name;
+  name = n;
+  name_place = at column;
+  body = same_as nat_type;
+  invariant = None;
+  place = at column;
+}
+
+-- `n = ..`, from this column on
+abbrev pub a_value : ExprTree → ℕ → ValueDefTree
+a_value value column = record {
+  access = record { is_static = false; level = Private };
+  name = n;
+  name_place = at column;
+  declared = None;
+  value = value;
+  place = at column;
+}
+
+-- `op : nat -> nat op (..) == ..`, from this column on
+abbrev pub a_function : PatternTree → ExprTree → ℕ → FunctionTree
+a_function pattern body column = record {
+  access = record { is_static = false; level = Private };
+  name = op;
+  name_place = at column;
+  parameters = nat_type ∷ [];
+  result_type = nat_type;
+  patterns = pattern ∷ [];
+  body = written body;
+  pre = None;
+  post = None;
+  measure = None;
+  place = at column;
+}
+
 abbrev pub a_class : List BlockTree → ClassTree
 a_class blocks = record { name = class_name; name_place = at 7; superclasses = []; blocks = blocks; place = at 1 }
 
 abbrev pub spec_of : List BlockTree → SpecTree
 spec_of blocks = record { classes = a_class blocks ∷ [] }
+
+-- the same class behind another one
+abbrev pub spec_of_two : List BlockTree → List BlockTree → SpecTree
+spec_of_two first second = record { classes = a_class first ∷ a_class second ∷ [] }
+
+-- a class with a superclass, in column 25
+abbrev pub spec_below : Name → List BlockTree → SpecTree
+spec_below superclass blocks =
+    record { classes = record (a_class blocks) { superclasses = record { name = superclass; place = at 25 } ∷ [] } ∷ [] }
 
 -- a class of one operation, in column 30
 abbrev pub spec_with : Option TypeTree → StmtTree → SpecTree

@@ -4,8 +4,8 @@
 mod laws;
 mod worked;
 
-pub use laws::{one_answer, one_class, one_specification, phases_follow};
+pub use laws::{one_answer, one_specification, phases_follow, variables_stand_alone};
 pub use worked::{
-    built_bindings, built_classes, built_expressions, built_operations, refused_behind,
-    refused_in_turn,
+    built_bindings, built_classes, built_expressions, built_functions, built_operations,
+    built_records, refused_behind, refused_in_turn,
 };

@@ -1,57 +1,81 @@
 // Trees that are worked out: the first form that is not built, and what is refused first.
 
 ghost use Rattle.std.specs.Prelude.{◌≡◌, true, false, [], ◌∷◌, Some, None};
+ghost use Rattle.vdm_kinds.specs.NameList.{io};
 ghost use Rattle.vdm_kinds.specs.declared.access.Level.TheVariants.{Protected};
-ghost use Rattle.vdm_kinds.specs.declared.basic_type.BasicType.TheVariants.{Char, Int, Nat, Token};
+ghost use Rattle.vdm_kinds.specs.declared.basic_type.BasicType.TheVariants.{Char, Nat, Token};
 ghost use Rattle.vdm_kinds.specs.declared.counter.Counter.TheVariants.{Finishes};
 ghost use Rattle.vdm_kinds.specs.declared.sign.Sign.TheVariants.{Plus, Minus, Negative};
 ghost use Rattle.vdm_kinds.specs.declared.spec_kind.SpecKind.TheVariants.{LeftOut, UnknownName, Duplicate};
 ghost use Rattle.vdm_lexer.specs.Lexemes.{fault_at};
 ghost use Rattle.abstract_syntax.specs.Types.{basic_type, bracketed_type};
-ghost use Rattle.abstract_syntax.specs.Expressions.{self_object, current_time, bracketed, prefixed, set_comprehension, map_enumeration, is_of_basic, history, select_of_class, let_in, let_be, def_in, if_else, cases_of, for_all, no_exprs, one_expr, left_out, given_expr, no_maplets, one_maplet, no_defined, one_defined, no_branches, one_branch, no_cases, one_case, bind_in, any_value, bound, equal_to, map_pattern, tuple_pattern, no_patterns, one_pattern, no_maplet_patterns, one_maplet_pattern};
+ghost use Rattle.abstract_syntax.specs.Expressions.{qualified, self_object, current_time, result_value, bracketed, prefixed, set_comprehension, map_enumeration, make_record, modify_record, is_of_type, is_of_named, is_of_basic, is_of_class, same_class, history, select_of_class, let_in, let_be, def_in, if_else, cases_of, for_all, no_exprs, one_expr, left_out, given_expr, no_maplets, one_maplet, no_field_values, one_field_value, no_defined, one_defined, no_branches, one_branch, no_cases, one_case, bind_in, any_value, bound, equal_to, map_pattern, tuple_pattern, record_pattern, no_patterns, one_pattern, no_maplet_patterns, one_maplet_pattern};
 ghost use Rattle.abstract_syntax.specs.Statements.{variable, variable_of_class, element_at, field_of, assign, call, block, returns, skips, no_stmts};
-ghost use Rattle.abstract_syntax.specs.Classes.{variable_item, invariant_item, not_yet_specified, types, variables, operations};
-ghost use Rattle.text_phases.specs.Built.{unbuilt_in_expr, unbuilt_in_initial, unbuilt_in_stmt, unbuilt_in_variable, unbuilt_in_operation, unbuilt_in_spec};
+ghost use Rattle.abstract_syntax.specs.Classes.{variable_item, invariant_item, not_yet_specified, subclass_responsibility, procedural, types, values, variables, functions, operations, thread_of, synchronisation};
+ghost use Rattle.class_meaning.specs.Classes.{print, println};
+ghost use Rattle.text_phases.specs.Built.{unbuilt_in_expr, unbuilt_if_given, unbuilt_in_stmt, unbuilt_in_function, unbuilt_in_variable, unbuilt_in_operation, unbuilt_in_superclasses, unbuilt_in_spec};
 ghost use Rattle.text_phases.specs.Phases.{checks_fault, main_checks_fault};
-ghost use Rattle.text_phases.specs.Worked.{at, name, class_name, n, op, one, truth, use_of, sign_between, applied, selected, new_of, an_argument, call_of_new, a_bind, record_at, in_block, set_to, call_to, gives, nat_type, a_variable, an_operation, a_class, spec_of, spec_with, spec_over};
+ghost use Rattle.text_phases.specs.Worked.{at, name, class_name, n, op, one, truth, use_of, sign_between, applied, selected, new_of, an_argument, call_of_new, a_bind, type_at, record_at, in_block, set_to, call_to, gives, nat_type, a_variable, an_operation, a_type, a_value, a_function, a_class, spec_of, spec_of_two, spec_below, spec_with, spec_over};
 
-/// Expressions: what is called, selected and made.
+/// Expressions: names, what is called, selected and made.
 pub fn built_expressions()
     ensures time { unbuilt_in_expr (current_time (at 1)) ≡ Some (at 1) }
     ensures me_in_brackets { unbuilt_in_expr (bracketed (self_object (at 2)) (at 1)) ≡ Some (at 2) }
     ensures counter { unbuilt_in_expr (sign_between (one 1) Plus 3 (history Finishes [] (at 5))) ≡ Some (at 5) }
-    ensures test { unbuilt_in_expr (is_of_basic Nat (self_object (at 8)) (at 1)) ≡ Some (at 1) }
-    ensures selection { unbuilt_in_expr (selected (use_of n 1) op 2) ≡ Some (at 2) }
-    ensures on_the_right { unbuilt_in_expr (sign_between (one 1) Plus 3 (selected (use_of n 5) op 6)) ≡ Some (at 6) }
+    ensures of_a_class { unbuilt_in_expr (qualified class_name op (at 3) (at 1)) ≡ None }
+    ensures of_io { unbuilt_in_expr (applied (qualified io op (at 4) (at 1)) (an_argument 9) 8) ≡ Some (at 1) }
+    ensures result { unbuilt_in_expr (sign_between (result_value (at 1)) Plus 8 (use_of n 10)) ≡ None }
+    ensures selection { unbuilt_in_expr (selected (use_of n 1) op 2) ≡ None }
+    ensures on_the_right { unbuilt_in_expr (sign_between (one 1) Plus 3 (selected (current_time (at 5)) op 9)) ≡ Some (at 5) }
     ensures in_what_is_selected { unbuilt_in_expr (selected (self_object (at 1)) op 5) ≡ Some (at 1) }
-    ensures selected_of_new { unbuilt_in_expr (selected (new_of no_exprs 1) n 8) ≡ Some (at 8) }
     ensures called_again { unbuilt_in_expr (applied (selected (call_of_new no_exprs) op 13) no_exprs 16) ≡ None }
-    ensures called_with_argument { unbuilt_in_expr (call_of_new (an_argument 12)) ≡ Some (at 8) }
-    ensures called_in_brackets { unbuilt_in_expr (applied (bracketed (selected (use_of n 2) op 3) (at 1)) no_exprs 7) ≡ Some (at 3) }
+    ensures called_with_argument { unbuilt_in_expr (call_of_new (an_argument 12)) ≡ None }
+    ensures printed { unbuilt_in_expr (applied (selected (new_of no_exprs 1) print 8) (an_argument 15) 14) ≡ Some (at 8) }
+    ensures printed_line { unbuilt_in_expr (applied (selected (use_of n 1) println 2) (one_expr (current_time (at 11)) no_exprs) 10) ≡ Some (at 2) }
+    ensures before_printed { unbuilt_in_expr (applied (selected (self_object (at 1)) print 5) (an_argument 12) 11) ≡ Some (at 1) }
+    ensures nothing_printed { unbuilt_in_expr (applied (selected (use_of n 1) print 2) no_exprs 8) ≡ None }
+    ensures selected_alone { unbuilt_in_expr (selected (use_of n 1) println 2) ≡ None }
+    ensures by_name_alone { unbuilt_in_expr (applied (use_of print 1) (an_argument 7) 6) ≡ None }
     ensures called_of_class { unbuilt_in_expr (applied (select_of_class (use_of n 1) class_name (at 3) op (at 5) (at 2)) no_exprs 7) ≡ Some (at 2) }
+    ensures before_its_class { unbuilt_in_expr (select_of_class (self_object (at 1)) class_name (at 6) op (at 8) (at 5)) ≡ Some (at 1) }
     ensures argument { unbuilt_in_expr (applied (use_of op 1) (one_expr (one 4) (one_expr (current_time (at 7)) no_exprs)) 3) ≡ Some (at 7) }
-    ensures head_first { unbuilt_in_expr (applied (selected (use_of n 1) op 2) (one_expr (current_time (at 6)) no_exprs) 5) ≡ Some (at 2) }
+    ensures head_first { unbuilt_in_expr (applied (selected (self_object (at 1)) op 5) (one_expr (current_time (at 9)) no_exprs) 8) ≡ Some (at 1) }
     ensures new_with_argument { unbuilt_in_expr (applied (selected (new_of (an_argument 7) 1) op 9) no_exprs 12) ≡ Some (at 7) }
     ensures new_with_sum { unbuilt_in_expr (new_of (one_expr (sign_between (one 7) Minus 9 (one 11)) no_exprs) 1) ≡ Some (at 7) }
     ensures called { unbuilt_in_expr (call_of_new no_exprs) ≡ None }
     ensures difference { unbuilt_in_expr (sign_between (truth 1) Minus 6 (bracketed (use_of n 9) (at 8))) ≡ None }
-    ensures initial { unbuilt_in_initial (Some (prefixed Negative (current_time (at 3)) (at 1))) ≡ Some (at 3) }
-    ensures no_initial { unbuilt_in_initial None ≡ None }
+    ensures initial { unbuilt_if_given (Some (prefixed Negative (current_time (at 3)) (at 1))) ≡ Some (at 3) }
+    ensures no_initial { unbuilt_if_given None ≡ None }
+{}
+
+/// Records, and tests of types and classes.
+pub fn built_records()
+    ensures made { unbuilt_in_expr (make_record (type_at 1) (one_expr (one 6) (one_expr (use_of n 9) no_exprs)) (at 1)) ≡ None }
+    ensures field { unbuilt_in_expr (make_record (type_at 1) (one_expr (one 6) (one_expr (self_object (at 9)) no_exprs)) (at 1)) ≡ Some (at 9) }
+    ensures changed { unbuilt_in_expr (modify_record (use_of n 4) (one_field_value op (at 7) (one 14) no_field_values) (at 1)) ≡ None }
+    ensures record_first { unbuilt_in_expr (modify_record (self_object (at 4)) (one_field_value op (at 10) (current_time (at 17)) no_field_values) (at 1)) ≡ Some (at 4) }
+    ensures second_value { unbuilt_in_expr (modify_record (use_of n 4) (one_field_value op (at 7) (one 14) (one_field_value n (at 17) (current_time (at 23)) no_field_values)) (at 1)) ≡ Some (at 23) }
+    ensures of_type { unbuilt_in_expr (is_of_type (self_object (at 5)) nat_type (at 1)) ≡ Some (at 5) }
+    ensures of_named { unbuilt_in_expr (is_of_named (type_at 1) (self_object (at 6)) (at 1)) ≡ Some (at 6) }
+    ensures of_basic { unbuilt_in_expr (is_of_basic Nat (self_object (at 8)) (at 1)) ≡ Some (at 8) }
+    ensures of_a_value { unbuilt_in_expr (is_of_type (one 5) nat_type (at 1)) ≡ None }
+    ensures of_class { unbuilt_in_expr (is_of_class class_name (at 11) (use_of n 14) (at 1)) ≡ Some (at 1) }
+    ensures same { unbuilt_in_expr (same_class (self_object (at 11)) (use_of n 17) (at 1)) ≡ Some (at 1) }
 {}
 
 /// What is bound and what is chosen.
 pub fn built_bindings()
-    ensures element_first { unbuilt_in_expr (set_comprehension (current_time (at 2)) (a_bind (record_at 6) (current_time (at 20))) left_out (at 1)) ≡ Some (at 2) }
-    ensures pattern_next { unbuilt_in_expr (set_comprehension (use_of n 2) (a_bind (record_at 6) (current_time (at 20))) left_out (at 1)) ≡ Some (at 6) }
+    ensures element_first { unbuilt_in_expr (set_comprehension (current_time (at 2)) (a_bind (record_at 6) (current_time (at 26))) left_out (at 1)) ≡ Some (at 2) }
+    ensures pattern_next { unbuilt_in_expr (set_comprehension (use_of n 2) (a_bind (record_at 6) (current_time (at 26))) left_out (at 1)) ≡ Some (at 12) }
     ensures set_next { unbuilt_in_expr (set_comprehension (use_of n 2) (a_bind (bound n (at 6)) (current_time (at 20))) (given_expr (self_object (at 30))) (at 1)) ≡ Some (at 20) }
     ensures condition_last { unbuilt_in_expr (set_comprehension (use_of n 2) (a_bind (bound n (at 6)) (use_of n 20)) (given_expr (self_object (at 30))) (at 1)) ≡ Some (at 30) }
     ensures in_pattern { unbuilt_in_expr (for_all (a_bind (tuple_pattern (one_pattern (bound n (at 9)) (one_pattern (equal_to (self_object (at 13)) (at 12)) no_patterns)) (at 6)) (use_of n 20)) (truth 30) (at 1)) ≡ Some (at 13) }
-    ensures in_map_pattern { unbuilt_in_expr (def_in (map_pattern (one_maplet_pattern (bound n (at 6)) (record_at 12) no_maplet_patterns) (at 5)) (use_of n 20) (truth 30) (at 1)) ≡ Some (at 12) }
-    ensures typed { unbuilt_in_expr (let_in (one_defined (bound n (at 5)) (Some nat_type) (current_time (at 30)) no_defined) (one 40) (at 1)) ≡ Some (at 20) }
-    ensures untyped { unbuilt_in_expr (let_in (one_defined (bound n (at 5)) None (one 30) (one_defined (bound op (at 33)) (Some nat_type) (one 37) no_defined)) (self_object (at 40)) (at 1)) ≡ Some (at 20) }
-    ensures body { unbuilt_in_expr (let_in (one_defined (bound n (at 5)) None (one 30) no_defined) (self_object (at 40)) (at 1)) ≡ Some (at 40) }
+    ensures in_map_pattern { unbuilt_in_expr (def_in (map_pattern (one_maplet_pattern (bound n (at 6)) (record_at 12) no_maplet_patterns) (at 5)) (use_of n 30) (truth 40) (at 1)) ≡ Some (at 18) }
+    ensures record { unbuilt_in_expr (def_in (record_pattern (type_at 5) (one_pattern (bound n (at 10)) no_patterns) (at 5)) (use_of op 15) (truth 20) (at 1)) ≡ None }
+    ensures typed { unbuilt_in_expr (let_in (one_defined (bound n (at 5)) (Some nat_type) (current_time (at 30)) no_defined) (one 40) (at 1)) ≡ Some (at 30) }
+    ensures untyped { unbuilt_in_expr (let_in (one_defined (bound n (at 5)) None (one 30) (one_defined (bound op (at 33)) (Some nat_type) (one 37) no_defined)) (self_object (at 40)) (at 1)) ≡ Some (at 40) }
     ensures chosen { unbuilt_in_expr (if_else (truth 4) (one 10) (one_branch (truth 20) (current_time (at 30)) no_branches) (self_object (at 40)) (at 1)) ≡ Some (at 30) }
-    ensures alternatives { unbuilt_in_expr (cases_of (use_of n 7) (one_case (one_pattern (bound op (at 10)) (one_pattern (record_at 14) no_patterns)) (current_time (at 20)) no_cases) (given_expr (self_object (at 40))) (at 1)) ≡ Some (at 14) }
+    ensures alternatives { unbuilt_in_expr (cases_of (use_of n 7) (one_case (one_pattern (bound op (at 10)) (one_pattern (record_at 14) no_patterns)) (current_time (at 30)) no_cases) (given_expr (self_object (at 40))) (at 1)) ≡ Some (at 20) }
     ensures others { unbuilt_in_expr (cases_of (use_of n 7) (one_case (one_pattern (bound op (at 10)) no_patterns) (one 20) no_cases) (given_expr (self_object (at 40))) (at 1)) ≡ Some (at 40) }
     ensures maplet { unbuilt_in_expr (map_enumeration (one_maplet (one 2) (one 8) (one_maplet (one 11) (self_object (at 17)) no_maplets)) (at 1)) ≡ Some (at 17) }
     ensures choice { unbuilt_in_expr (let_be (bind_in (one_pattern (any_value (at 5)) no_patterns) (use_of n 14)) left_out (one 20) (at 1)) ≡ None }
@@ -65,7 +89,7 @@ pub fn built_operations()
     ensures value { unbuilt_in_stmt (set_to n (current_time (at 6)) 1) ≡ Some (at 6) }
     ensures argument { unbuilt_in_stmt (call (applied (use_of op 1) (one_expr (current_time (at 4)) no_exprs) 3) (at 1)) ≡ Some (at 4) }
     ensures head { unbuilt_in_stmt (call (applied (selected (self_object (at 1)) op 5) no_exprs 8) (at 1)) ≡ Some (at 1) }
-    ensures on_another { unbuilt_in_stmt (call (applied (selected (use_of n 1) op 2) no_exprs 5) (at 1)) ≡ None }
+    ensures on_another { unbuilt_in_stmt (call (applied (selected (use_of n 1) op 2) (an_argument 6) 5) (at 1)) ≡ None }
     ensures twice { unbuilt_in_stmt (call (applied (applied (use_of op 1) no_exprs 3) no_exprs 5) (at 1)) ≡ None }
     ensures nested { unbuilt_in_stmt (in_block (set_to n (truth 7) 2 ∷ in_block (call_to op 11 ∷ skips (at 17) ∷ []) 10 ∷ []) 1) ≡ Some (at 17) }
     ensures returned { unbuilt_in_spec (spec_with None (in_block (gives (one 59) 52 ∷ []) 51)) ≡ Some (at 52) }
@@ -75,34 +99,63 @@ pub fn built_operations()
     ensures no_value { unbuilt_in_spec (spec_with (Some nat_type) (in_block (returns None (at 52) ∷ []) 51)) ≡ Some (at 52) }
     ensures at_its_end { unbuilt_in_spec (spec_with (Some nat_type) (in_block (call_to op 52 ∷ gives (truth 65) 58 ∷ []) 51)) ≡ None }
     ensures in_value { unbuilt_in_spec (spec_with (Some nat_type) (in_block (gives (self_object (at 59)) 52 ∷ []) 51)) ≡ Some (at 59) }
-    ensures token { unbuilt_in_spec (spec_with (Some (basic_type Token (at 44))) (skips (at 60))) ≡ Some (at 44) }
+    ensures any_type { unbuilt_in_spec (spec_with (Some (basic_type Token (at 44))) (in_block (gives (one 59) 52 ∷ []) 51)) ≡ None }
     ensures other_type { unbuilt_in_spec (spec_with (Some (basic_type Char (at 44))) (skips (at 60))) ≡ Some (at 60) }
     ensures private { unbuilt_in_operation class_name (record (an_operation op None (skips (at 60)) 30) { access = record { is_static = false; level = Protected } })
         ≡ Some (at 30) }
     ensures no_body { unbuilt_in_operation class_name (record (an_operation op (Some (basic_type Token (at 44))) (skips (at 60)) 30) { body = not_yet_specified })
         ≡ Some (at 30) }
     ensures constructor { unbuilt_in_operation class_name (an_operation class_name None (call_to op 60) 30) ≡ Some (at 30) }
+    ensures parameter { unbuilt_in_operation class_name (record (an_operation op None (skips (at 60)) 30) { parameters = nat_type ∷ []; patterns = bound n (at 50) ∷ [] })
+        ≡ Some (at 20) }
     ensures condition { unbuilt_in_operation class_name (record (an_operation op None (call_to op 60) 30) { pre = Some (sign_between (one 70) Minus 72 (one 74)) })
         ≡ Some (at 70) }
+{}
+
+/// Types, values and functions, of any class.
+pub fn built_functions()
+    ensures type_alone { unbuilt_in_spec (spec_of (types (a_type 30 ∷ []) (at 9) ∷ [])) ≡ None }
+    ensures invariant { unbuilt_in_spec (spec_of (types (a_type 30 ∷ record (a_type 50) { invariant = Some (record { pattern = bound n (at 64); condition = truth 69 }) } ∷ []) (at 9) ∷ []))
+        ≡ Some (at 64) }
+    ensures value { unbuilt_in_spec (spec_of (values (a_value (one 34) 30 ∷ a_value (self_object (at 44)) 40 ∷ []) (at 9) ∷ [])) ≡ Some (at 44) }
+    ensures pattern_first { unbuilt_in_function (a_function (record_at 50) (self_object (at 70)) 30) ≡ Some (at 56) }
+    ensures body { unbuilt_in_function (record (a_function (bound n (at 50)) (self_object (at 56)) 30) { pre = Some (current_time (at 70)) }) ≡ Some (at 56) }
+    ensures pre { unbuilt_in_function (record (a_function (bound n (at 50)) (use_of n 56) 30) { pre = Some (current_time (at 70)); post = Some (current_time (at 80)) })
+        ≡ Some (at 70) }
+    ensures post { unbuilt_in_function (record (a_function (bound n (at 50)) (use_of n 56) 30) { post = Some (current_time (at 80)) }) ≡ Some (at 80) }
+    ensures measure { unbuilt_in_function (record (a_function (bound n (at 50)) (use_of n 56) 30) { measure = Some (current_time (at 90)) }) ≡ None }
+    ensures open { unbuilt_in_function (record (a_function (bound n (at 50)) (one 56) 30) { body = not_yet_specified }) ≡ None }
+    ensures of_subclasses { unbuilt_in_function (record (a_function (bound n (at 50)) (one 56) 30) { body = subclass_responsibility; pre = Some (current_time (at 90)) })
+        ≡ Some (at 90) }
+    ensures second { unbuilt_in_spec (spec_of (functions (a_function (bound n (at 50)) (use_of n 56) 30 ∷ a_function (bound n (at 80)) (current_time (at 86)) 60 ∷ []) (at 9) ∷ []))
+        ≡ Some (at 86) }
+    ensures of_two { unbuilt_in_spec (spec_of_two (values (a_value (one 34) 30 ∷ []) (at 9) ∷ []) (functions (a_function (bound n (at 50)) (use_of n 56) 30 ∷ []) (at 9) ∷ []))
+        ≡ None }
+    ensures inherited { unbuilt_in_spec (spec_below n (functions (a_function (bound n (at 50)) (use_of n 56) 30 ∷ []) (at 29) ∷ [])) ≡ None }
 {}
 
 /// Variables, blocks and classes.
 pub fn built_classes()
     ensures access_word { unbuilt_in_variable (record (a_variable n 37) { place = at 30 }) ≡ Some (at 30) }
     ensures no_initial { unbuilt_in_variable (record (a_variable n 30) { declared = basic_type Token (at 34); initial = None }) ≡ Some (at 30) }
-    ensures token { unbuilt_in_variable (record (a_variable n 30) { declared = basic_type Token (at 34) }) ≡ Some (at 34) }
-    ensures whole_number { unbuilt_in_variable (record (a_variable n 30) { declared = basic_type Int (at 34) }) ≡ None }
-    ensures brackets { unbuilt_in_variable (record (a_variable n 30) { declared = bracketed_type nat_type (at 34) }) ≡ Some (at 34) }
+    ensures any_type { unbuilt_in_variable (record (a_variable n 30) { declared = bracketed_type (basic_type Token (at 35)) (at 34) }) ≡ None }
+    ensures initial { unbuilt_in_variable (record (a_variable n 30) { initial = Some (self_object (at 41)) }) ≡ Some (at 41) }
     ensures invariant { unbuilt_in_spec (spec_of (variables (invariant_item (truth 34) (at 30) ∷ []) (at 9) ∷ [])) ≡ Some (at 30) }
-    ensures empty_block { unbuilt_in_spec (spec_of (variables [] (at 9) ∷ [])) ≡ Some (at 9) }
-    ensures other_block { unbuilt_in_spec (spec_of (types [] (at 9) ∷ operations (an_operation op None (skips (at 60)) 30 ∷ []) (at 20) ∷ [])) ≡ Some (at 9) }
+    ensures empty_block { unbuilt_in_spec (spec_of (variables [] (at 9) ∷ operations [] (at 29) ∷ [])) ≡ None }
+    ensures other_block { unbuilt_in_spec (spec_of (types [] (at 9) ∷ operations (an_operation op None (skips (at 60)) 30 ∷ []) (at 20) ∷ [])) ≡ Some (at 60) }
     ensures behind_operations { unbuilt_in_spec (spec_of (operations (an_operation op None (call_to op 60) 30 ∷ []) (at 9)
-        ∷ variables (variable_item (a_variable n 80) ∷ []) (at 70) ∷ [])) ≡ Some (at 70) }
+        ∷ variables (variable_item (a_variable n 80) ∷ []) (at 70) ∷ [])) ≡ None }
     ensures second_block { unbuilt_in_spec (spec_of (variables (variable_item (a_variable n 30) ∷ []) (at 9)
-        ∷ variables (variable_item (a_variable op 80) ∷ []) (at 70) ∷ [])) ≡ Some (at 70) }
-    ensures second_class { unbuilt_in_spec (record { classes = a_class [] ∷ record (a_class []) { place = at 40 } ∷ [] }) ≡ Some (at 40) }
-    ensures superclass { unbuilt_in_spec (record { classes = record (a_class []) { superclasses = record { name = n; place = at 25 } ∷ [] } ∷ [] })
-        ≡ Some (at 25) }
+        ∷ variables (variable_item (record (a_variable op 80) { initial = None }) ∷ []) (at 70) ∷ [])) ≡ Some (at 80) }
+    ensures thread { unbuilt_in_spec (spec_of (thread_of (procedural (skips (at 16))) (at 9) ∷ [])) ≡ Some (at 9) }
+    ensures synchronised { unbuilt_in_spec (spec_of (synchronisation [] (at 9) ∷ [])) ≡ Some (at 9) }
+    ensures second_class { unbuilt_in_spec (spec_of_two [] []) ≡ None }
+    ensures variables_of_two { unbuilt_in_spec (spec_of_two (variables (variable_item (a_variable n 30) ∷ []) (at 9) ∷ []) []) ≡ Some (at 9) }
+    ensures operations_of_two { unbuilt_in_spec (spec_of_two [] (operations [] (at 9) ∷ [])) ≡ Some (at 9) }
+    ensures superclass { unbuilt_in_spec (spec_below n []) ≡ None }
+    ensures variables_below { unbuilt_in_spec (spec_below n (variables [] (at 29) ∷ [])) ≡ Some (at 29) }
+    ensures below_io { unbuilt_in_spec (spec_below io (variables [] (at 29) ∷ [])) ≡ Some (at 25) }
+    ensures second_superclass { unbuilt_in_superclasses (record { name = n; place = at 25 } ∷ record { name = io; place = at 28 } ∷ []) ≡ Some (at 28) }
     ensures whole { unbuilt_in_spec (spec_over None (set_to n (sign_between (use_of n 87) Plus 89 (one 91)) 82)) ≡ None }
     ensures nothing { unbuilt_in_spec (record { classes = [] }) ≡ None }
 {}

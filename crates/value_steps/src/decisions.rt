@@ -15,7 +15,7 @@ ghost use Rattle.value_steps.specs.Further.{decided_code, where_truth};
 
 use crate::branches::branch;
 use crate::operands::{between, part_for};
-use eval_data::{Here, Search, Step, TruthUse, Use};
+use eval_data::{Applying, Here, Search, Step, TruthUse, Use};
 use expr_tree::Expr;
 use vdm_kinds::{Place, RunFault, Sign};
 use vdm_values::{Node, Value};
@@ -27,6 +27,10 @@ pub enum Decided<'t> {
     Known(Step<'t>),
     /// The first of the choices that are left fulfils it or does not.
     Chosen(Box<Search<'t>>, bool),
+    /// What `pre` says of the arguments of a function.
+    Pre(Box<Applying<'t>>, bool),
+    /// What `post` says of the result of a function.
+    Post(Box<Applying<'t>>, Value, bool),
 }
 
 /// The truth value that the value is, if it is one.
@@ -61,6 +65,8 @@ fn decided_for<'t>(used: TruthUse<'t>, place: Place, b: bool) -> Decided<'t>
         }
         TruthUse::Right => Decided::Known(truth(b)),
         TruthUse::Choice(search) => Decided::Chosen(search, b),
+        TruthUse::Pre(applying) => Decided::Pre(applying, b),
+        TruthUse::Post(applying, result) => Decided::Post(applying, result, b),
     }
 }
 

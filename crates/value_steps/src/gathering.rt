@@ -53,7 +53,7 @@ pub fn collected<'t>(
 }
 
 /// A part is evaluated, and its value stands behind those that came.
-pub(crate) fn part_among<'t>(
+pub fn part_among<'t>(
     alloc: Global,
     tree: &'t Expr,
     collecting: Collecting<'t>,

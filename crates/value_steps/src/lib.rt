@@ -14,7 +14,7 @@ mod strict_nodes;
 
 pub use branches::{branch, if_else};
 pub use decisions::{Decided, infix, left_truth, on_truth, truth, truth_of};
-pub use gathering::{Gathered, collected, with_value};
+pub use gathering::{Gathered, collected, part_among, with_value};
 pub use literals::literal;
 pub use made::made_of;
 pub use operands::{operand, operators, prefix, range, right_operand};

@@ -2,13 +2,14 @@
 
 ghost use Rattle.std.specs.Prelude.{◌≡◌, MatchOption, map, drop};
 ghost use Rattle.abstract_syntax.specs.Expressions.{no_exprs, one_expr};
-ghost use Rattle.expr_tree.specs.View.{view_of, views_of, boxed_view, expr_trees, maplet_view, maplet_trees};
+ghost use Rattle.expr_tree.specs.View.{view_of, views_of, boxed_view, expr_trees, maplet_view, maplet_trees, field_value_view, field_value_trees};
 ghost use Rattle.node_meaning.specs.Matching.{exprs_of};
+ghost use Rattle.node_meaning.specs.Records.{field_exprs};
 ghost use Rattle.node_meaning.specs.Strict.{maplet_exprs};
 ghost use Rattle.eval_data.specs.Parts.{parts_of, boxed_list};
 
 use eval_data::Parts;
-use expr_tree::{Expr, Maplet};
+use expr_tree::{Expr, FieldValue, Maplet};
 
 /// The next part, and those behind it.
 pub fn next_part<'t>(parts: Parts<'t>) -> Option<(&'t Expr, Parts<'t>)>
@@ -22,6 +23,7 @@ pub fn next_part<'t>(parts: Parts<'t>) -> Option<(&'t Expr, Parts<'t>)>
         Parts::Items(items) => next_item(items),
         Parts::Maplets(maplets) => next_key(maplets),
         Parts::MapletValue(held, maplets) => Some((boxed(held), Parts::Maplets(maplets))),
+        Parts::Changes(changes) => next_change(changes),
         Parts::Brackets(found, from) => next_bracket(found, from),
     }
 }
@@ -49,6 +51,16 @@ fn next_key<'t>(maplets: &'t [Maplet]) -> Option<(&'t Expr, Parts<'t>)>
     match maplets {
         [] => None,
         [first, others @ ..] => Some((boxed(&first.key), Parts::MapletValue(&first.value, others))),
+    }
+}
+
+/// The new value of the first of the fields.
+fn next_change<'t>(changes: &'t [FieldValue]) -> Option<(&'t Expr, Parts<'t>)>
+    ensures { MatchOption result (field_exprs (field_value_trees (map field_value_view changes.now)) ≡ no_exprs) (λ p. field_exprs (field_value_trees (map field_value_view changes.now)) ≡ one_expr (view_of p.0.now) (parts_of p.1)) }
+{
+    match changes {
+        [] => None,
+        [first, others @ ..] => Some((boxed(&first.value), Parts::Changes(others))),
     }
 }
 

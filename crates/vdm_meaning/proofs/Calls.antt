@@ -1,5 +1,5 @@
 -- Calls keep the rules of journals.
-use Rattle.std.proofs.Common.{◌≢◌, ◌∷◌, [], if◌then◌else◌, Bool, Err, IfOk, List, None, Ok, Option, Result, Some, false, refl, true, ℕ}
+use Rattle.std.proofs.Common.{◌≢◌, ◌∷◌, [], Err, IfOk, List, None, Ok, Option, Result, Some, refl, ℕ}
 use Rattle.vdm_kinds.specs.declared.member.OpRef.{OpRef}
 use Rattle.vdm_kinds.specs.declared.name.Name.{Name}
 use Rattle.vdm_kinds.specs.declared.place.Place.{Place}
@@ -24,23 +24,23 @@ use Rattle.vdm_legal.proofs.Sanity.{IsSane, IsWithin, act-waits, begun-sane, beh
 use Rattle.node_meaning.specs.Envs.{Here, Locals, inside}
 use Rattle.node_meaning.specs.Tasks.{Flow, exited, gave, next, noted, returned}
 use Rattle.node_meaning.specs.Strict.{there}
-use Rattle.node_meaning.specs.Types.{fits}
-use Rattle.node_meaning.specs.Calls.{given_slot, given, tested, finished, ended, begun, activated, requested, called, Wanted, a_value, no_value}
+use Rattle.node_meaning.specs.Fitting.{type_fault}
+use Rattle.node_meaning.specs.Calls.{given_slot, given, unless_wrong, tested, finished, ended, begun, activated, requested, called, Wanted, a_value, no_value}
 use Rattle.vdm_meaning.proofs.Rules.{GivesKnown, IsSafe, IsSafeWith, MayLeave, MayRun}
 use Rattle.vdm_meaning.proofs.Parts.{IsAt, at-among, at-later, may-fail, run-behind, safe-finish, safe-value}
 use Rattle.vdm_meaning.proofs.Asking.{safe-ask}
 
 -- ---- what the test of a result lets through
 
-tested-known : (now : List Entry) (declared : Option TypeTree) (slot : Slot) → IsKnownSlot now slot → IfOk (tested declared slot) (IsKnownSlot now)
-tested-known now None Unset h = tt
-tested-known now None (Held v) h = tt
-tested-known now (Some declared) Unset h = tt
-tested-known now (Some declared) (Held v) h = by (fits declared v)
-  where
-    by : (b : Bool) → IfOk (if b then Ok (Held v) else Err TypeFault) (IsKnownSlot now)
-    by true = h
-    by false = tt
+unless_wrong-known : (now : List Entry) (found : Option RunFault) (slot : Slot) → IsKnownSlot now slot → IfOk (unless_wrong found slot) (IsKnownSlot now)
+unless_wrong-known now None slot h = h
+unless_wrong-known now (Some kind) slot h = tt
+
+tested-known : (spec : SpecTree) (now : List Entry) (class : Name) (declared : Option TypeTree) (slot : Slot) → IsKnownSlot now slot → IfOk (tested spec class declared slot) (IsKnownSlot now)
+tested-known spec now class None Unset h = tt
+tested-known spec now class None (Held v) h = tt
+tested-known spec now class (Some declared) Unset h = tt
+tested-known spec now class (Some declared) (Held v) h = unless_wrong-known now (type_fault spec (Some class) declared v) (Held v) h
 
 module _ (spec : SpecTree) where
   -- ---- what is given where the call stands
@@ -92,27 +92,27 @@ module _ (spec : SpecTree) where
       safe-finished (Ok slot) h =
           safe-fin (gave slot locals) (slot-on after (entry Main me (deed.Fin op) ∷ []) (behind_finish after me op) refl slot h, at-end.may.known)
 
-      safe-ended : (flow : Flow) → GivesKnown after flow → IsSafeWith spec (Some 1) first after (ended me op operation.result_type place locals flow)
+      safe-ended : (flow : Flow) → GivesKnown after flow → IsSafeWith spec (Some 1) first after (ended spec me op operation.result_type place locals flow)
       safe-ended (gave slot inner) known = may-fail spec Undefined place callee-done
-      safe-ended (next inner) known = safe-finished (tested operation.result_type Unset) (tested-known after operation.result_type Unset tt)
-      safe-ended (returned slot inner) known = safe-finished (tested operation.result_type slot) (tested-known after operation.result_type slot known.0)
+      safe-ended (next inner) known = safe-finished (tested spec op.class operation.result_type Unset) (tested-known spec after op.class operation.result_type Unset tt)
+      safe-ended (returned slot inner) known = safe-finished (tested spec op.class operation.result_type slot) (tested-known spec after op.class operation.result_type slot known.0)
       safe-ended (exited v from inner) known =
           safe-fin (exited v from locals) (known-on after (entry Main me (deed.Fin op) ∷ []) (behind_finish after me op) refl v known.0, at-end.may.known)
 
-    safe-begun : (body : Body StmtTree) → IsSafeWith spec (Some 1) first (behind_activation before me op) (begun me own op operation.result_type place locals body)
+    safe-begun : (body : Body StmtTree) → IsSafeWith spec (Some 1) first (behind_activation before me op) (begun spec me own op operation.result_type place locals body)
     safe-begun (written body) = (callee-begun, λ after flow w leaves. safe-ended after w leaves.0 flow leaves.1)
     safe-begun _ = may-fail spec Undefined place callee-begun
 
-    safe-requested : (answer : Answer) → IsSafeWith spec (Some 2) first (behind_request before me op) (requested me own op operation place locals answer)
+    safe-requested : (answer : Answer) → IsSafeWith spec (Some 2) first (behind_request before me op) (requested spec me own op operation place locals answer)
     safe-requested answer =
-        safe-ask spec MayLeave first (behind_request before me op) 1 (activated me own op operation place locals) (Act me op) (entry Main me (deed.Act op)) (λ a taken is. is)
+        safe-ask spec MayLeave first (behind_request before me op) 1 (activated spec me own op operation place locals) (Act me op) (entry Main me (deed.Act op)) (λ a taken is. is)
         (record { ready = (callee-requested.me, act-waits before me op is_at.may.sane); sane = callee-requested.sane })
         (safe-begun operation.body)
 
   -- a call of what is no operation of its class is a fault
-  pub safe-called : (first before : List Entry) (here : Here) (locals : Locals) → IsAt first before here locals → (me : ℕ) → object_part me before ≢ [] → (own : Name) (op : OpRef) (operation : Option OperationTree) (place : Place) → IsSafe spec first before (called me own op operation place locals)
+  pub safe-called : (first before : List Entry) (here : Here) (locals : Locals) → IsAt first before here locals → (me : ℕ) → object_part me before ≢ [] → (own : Name) (op : OpRef) (operation : Option OperationTree) (place : Place) → IsSafe spec first before (called spec me own op operation place locals)
   safe-called first before here locals is_at me there own op None place = may-fail spec TypeFault place is_at.may
   safe-called first before here locals is_at me there own op (Some operation) place =
-      safe-ask spec MayLeave first before 2 (requested me own op operation place locals) (Req me op) (entry Main me (deed.Req op)) (λ a taken is. is)
+      safe-ask spec MayLeave first before 2 (requested spec me own op operation place locals) (Req me op) (entry Main me (deed.Req op)) (λ a taken is. is)
       (record { ready = there; sane = is_at.may.sane })
       (safe-requested first before here locals is_at me there own op operation place Done)

@@ -15,10 +15,12 @@ use Rattle.node_meaning.specs.Tasks.{Code}
 use Rattle.node_meaning.specs.Strict.{one_operand, two_operands}
 use Rattle.node_meaning.specs.Expressions.{branch, branches, cases_met, decided_by, defined, joined_by, no_match, others_of, patterns_met, prefixed_by, right_truth, truth, unless_decided, within}
 use Rattle.node_meaning.specs.Matching.{meets}
+use Rattle.node_meaning.specs.Fitting.{typed_maybe}
 use Rattle.vdm_meaning.proofs.Rules.{IsSafe}
 use Rattle.vdm_meaning.proofs.Parts.{Goes, IsAt, may-fail, safe-become, safe-evaluated, safe-value, safe-within}
 use Rattle.vdm_meaning.proofs.Strict.{safe-strict}
 use Rattle.vdm_meaning.proofs.Matching.{safe-decided, safe-meets}
+use Rattle.vdm_meaning.proofs.Fitting.{safe-typed_maybe}
 
 module _ (spec : SpecTree) (first : List Entry) (here : Here) (place : Place) where
   -- ---- operators that stop when decided
@@ -79,9 +81,10 @@ module _ (spec : SpecTree) (first : List Entry) (here : Here) (place : Place) wh
 
   pub safe-defined : (definitions : DefinedTrees) (now : List Entry) (count : ℕ) (body : ExprTree) (locals : Locals) → IsAt first now here locals → IsSafe spec first now (defined spec here place count definitions body locals)
   safe-defined no_defined now count body locals is_at = safe-within spec first now here count body locals is_at
-  safe-defined (one_defined pattern None tree more) now count body locals is_at =
-      safe-evaluated spec first now here locals tree place (meets spec here place pattern (defined spec here place count more body) (no_match place)) is_at (λ later v after w at_later known.
-      safe-meets spec first later here place pattern (defined spec here place count more body) (no_match place) v after at_later known
+  safe-defined (one_defined pattern declared tree more) now count body locals is_at =
+      let met = meets spec here place pattern (defined spec here place count more body) (no_match place) in
+      safe-evaluated spec first now here locals tree place (typed_maybe spec here.scope declared place met) is_at (λ later v after w at_later known.
+      safe-typed_maybe spec at_later here.scope declared place met v
+      (safe-meets spec first later here place pattern (defined spec here place count more body) (no_match place) v after at_later known
       (λ end others x at_end. safe-defined more end count body others at_end)
-      (λ end others x at_end. may-fail spec NoMatch place at_end.may))
-  safe-defined (one_defined pattern (Some declared) tree more) now count body locals is_at = may-fail spec Undefined place is_at.may
+      (λ end others x at_end. may-fail spec NoMatch place at_end.may)))

@@ -1,5 +1,5 @@
 -- Expressions keep the rules of journals.
-use Rattle.std.proofs.Common.{List, None, Some, length}
+use Rattle.std.proofs.Common.{[], List, None, Some, length}
 use Rattle.vdm_kinds.specs.declared.operator.Operator.TheVariants.{Interval}
 use Rattle.vdm_kinds.specs.declared.place.Place.{Place}
 use Rattle.vdm_kinds.specs.declared.run_fault.RunFault.TheVariants.{Undefined}
@@ -7,25 +7,30 @@ use Rattle.vdm_kinds.specs.Signs.{sign_operator}
 use Rattle.abstract_syntax.specs.Classes.{SpecTree}
 use Rattle.abstract_syntax.specs.Values.{map_of, no_pairs}
 use Rattle.abstract_syntax.specs.Literals.{LiteralTree}
-use Rattle.abstract_syntax.specs.Expressions.{BindTrees, ExprTree, ExprTrees, apply, bind_in, bracketed, cases_of, create, def_in, empty_map, exists_one, exists_some, expr_place, for_all, if_else, iota_of, joined, let_be, let_in, literal, make_token, make_tuple, map_comprehension, map_enumeration, named, no_binds, no_defined, no_exprs, no_patterns, one_bind, one_branch, one_defined, one_expr, one_pattern, prefixed, select_part, sequence_comprehension, sequence_enumeration, set_comprehension, set_enumeration, set_range, subsequence}
+use Rattle.abstract_syntax.specs.Types.{TypeTree, basic_type, named_type}
+use Rattle.abstract_syntax.specs.Expressions.{BindTrees, ExprTree, ExprTrees, apply, bind_in, bracketed, cases_of, create, def_in, empty_map, exists_one, exists_some, expr_place, for_all, if_else, iota_of, is_of_basic, is_of_named, is_of_type, joined, let_be, let_in, literal, make_record, make_token, make_tuple, map_comprehension, map_enumeration, modify_record, named, no_binds, no_defined, no_exprs, no_patterns, one_bind, one_branch, one_defined, one_expr, one_pattern, prefixed, qualified, result_value, select, select_part, sequence_comprehension, sequence_enumeration, set_comprehension, set_enumeration, set_range, subsequence}
 use Rattle.value_operators.specs.Outcomes.{sized}
 use Rattle.pattern_meaning.specs.Ways.{literal_value}
 use Rattle.value_parts.proofs.Gathered.{sized_keeps}
 use Rattle.value_parts.proofs.WayObjects.{literal_keeps}
 use Rattle.run_journal.specs.declared.entry.Entry.{Entry}
 use Rattle.vdm_legal.proofs.Known.{IsThere}
-use Rattle.node_meaning.specs.Envs.{Here, Locals, local_named}
-use Rattle.node_meaning.specs.Tasks.{value_or_fault}
+use Rattle.node_meaning.specs.Envs.{Here, Locals, local_named, result_name}
+use Rattle.node_meaning.specs.Fitting.{fitting_in}
+use Rattle.node_meaning.specs.Records.{changed, field_exprs, field_names, record_changed, record_made, record_of_type, record_type}
+use Rattle.node_meaning.specs.Tasks.{evaluated, value_or_fault}
 use Rattle.node_meaning.specs.Calls.{a_value}
 use Rattle.node_meaning.specs.Strict.{Strict, a_component, a_map, a_sequence, a_set, a_subsequence, a_token, a_tuple, maplet_exprs, strict, two_operands}
 use Rattle.node_meaning.specs.Choosing.{Chooser, choosing, collects, for_each, for_one, for_some, takes_first, the_one}
-use Rattle.node_meaning.specs.Expressions.{cases_met, expr_plan}
+use Rattle.node_meaning.specs.Expressions.{cases_met, expr_plan, fit_value, selected}
 use Rattle.vdm_meaning.specs.Main.{of_thread}
 use Rattle.vdm_meaning.proofs.Rules.{IsSafe}
 use Rattle.vdm_meaning.proofs.Parts.{IsAt, may-fail, safe-become, safe-evaluated, safe-value}
-use Rattle.vdm_meaning.proofs.Strict.{safe-strict, safe-value_or_fault}
+use Rattle.vdm_meaning.proofs.Strict.{safe-collected, safe-strict, safe-value_or_fault}
+use Rattle.vdm_meaning.proofs.Fitting.{safe-fit_answer}
+use Rattle.vdm_meaning.proofs.Records.{changed_keeps, record_of_type_keeps}
 use Rattle.vdm_meaning.proofs.Choosing.{safe-choosing}
-use Rattle.vdm_meaning.proofs.Names.{local-known, safe-name}
+use Rattle.vdm_meaning.proofs.Names.{local-known, safe-held, safe-name, safe-selected, safe-value_named}
 use Rattle.vdm_meaning.proofs.Applications.{safe-application, safe-created_with}
 use Rattle.vdm_meaning.proofs.Chosen.{safe-branches, safe-cases_met, safe-defined, safe-joined_by, safe-prefixed_by}
 
@@ -41,9 +46,17 @@ module _ (spec : SpecTree) (first now : List Entry) (here : Here) (locals : Loca
   safe-chosen : (place : Place) (binds : BindTrees) (chooser : Chooser) → IsSafe spec first now (choosing spec here place binds chooser locals)
   safe-chosen place binds chooser = safe-choosing spec first here place now binds chooser locals is_at
 
+  safe-fit : (tree : ExprTree) (t : TypeTree) (place : Place) → IsSafe spec first now (evaluated here locals tree place (fit_value spec here.scope t place))
+  safe-fit tree t place =
+      safe-evaluated spec first now here locals tree place (fit_value spec here.scope t place) is_at (λ later v after w at_later known.
+      safe-fit_answer spec at_later place (fitting_in spec here.scope t v))
+
   pub safe-expr : (tree : ExprTree) → IsSafe spec first now (expr_plan (of_thread spec) here locals tree)
   safe-expr (literal tree place) = safe-literal tree place
   safe-expr (named name place) = safe-name spec first now here place locals is_at name (local_named locals name) (local-known now locals name is_at.may.known)
+  safe-expr (qualified class name name_place place) = safe-value_named spec first now here place locals is_at (Some class) name
+  safe-expr (result_value place) =
+      safe-held spec first now here place locals is_at (local_named locals result_name) (local-known now locals result_name is_at.may.known)
   safe-expr (bracketed inner place) = safe-become spec first now here locals inner is_at
   safe-expr (prefixed sign tree place) = safe-prefixed_by spec first here place now (sign_operator sign) tree locals is_at
   safe-expr (joined left sign right place) = safe-joined_by spec first here place now (sign_operator sign) left sign right locals is_at
@@ -58,8 +71,20 @@ module _ (spec : SpecTree) (first now : List Entry) (here : Here) (locals : Loca
       safe-chosen place (one_bind (bind_in (one_pattern pattern no_patterns) set) no_binds) (collects a_sequence (one_expr item no_exprs) condition)
   safe-expr (make_tuple parts place) = safe-strictly a_tuple place parts
   safe-expr (make_token inner place) = safe-strictly a_token place (one_expr inner no_exprs)
+  safe-expr (make_record t arguments place) =
+      safe-collected spec first now here place arguments [] (record_made spec here.scope t place) locals is_at tt (λ later vs after w at_later known.
+      safe-value_or_fault spec place (record_of_type spec (record_type spec here.scope t) vs) at_later (record_of_type_keeps (IsThere later) spec (record_type spec here.scope t) vs known))
+  safe-expr (modify_record target changes place) =
+      safe-collected spec first now here place (one_expr target (field_exprs changes)) [] (record_changed spec (field_names changes) place) locals is_at tt (λ later vs after w at_later known.
+      safe-value_or_fault spec place (changed spec (field_names changes) vs) at_later (changed_keeps (IsThere later) spec (field_names changes) vs known))
+  safe-expr (is_of_type tree t place) = safe-fit tree t place
+  safe-expr (is_of_named t tree place) = safe-fit tree (named_type t place) place
+  safe-expr (is_of_basic basic tree place) = safe-fit tree (basic_type basic place) place
   safe-expr (create class class_place arguments place) = safe-created_with spec first now here place locals is_at arguments class
   safe-expr (apply head arguments place) = safe-application spec first now here head arguments place a_value locals is_at
+  safe-expr (select target name name_place place) =
+      safe-evaluated spec first now here locals target place (selected (of_thread spec) place name) is_at (λ later v after w at_later known.
+      safe-selected spec first later here place after at_later name v known)
   safe-expr (subsequence target from to place) = safe-strictly a_subsequence place (one_expr target (one_expr from (one_expr to no_exprs)))
   safe-expr (select_part target number place) = safe-strictly (a_component number) place (one_expr target no_exprs)
   safe-expr (let_in definitions body place) = safe-defined spec first here place definitions now (length locals) body locals is_at

@@ -6,6 +6,8 @@ pub mod Choosing
 pub mod Chosen
 pub mod Expressions
 pub mod Finishing
+pub mod Fitting
+pub mod Functions
 pub mod GoingOn
 pub mod Main
 pub mod Matching
@@ -14,6 +16,7 @@ pub mod Needs
 pub mod Objects
 pub mod OneRun
 pub mod Parts
+pub mod Records
 pub mod Rules
 pub mod RunSteps
 pub mod Runs

@@ -1,26 +1,31 @@
 -- Names that stand alone keep the rules.
 use mathlib.Core.List.{reverse-cons}
-use Rattle.std.proofs.Common.{◌∷◌, [], if◌then◌else◌, Bool, IfSome, List, None, Option, Some, false, option_map, reverse, subst, sym, true, ℕ}
+use Rattle.std.proofs.Common.{◌≢◌, ◌∷◌, [], if◌then◌else◌, Bool, IfSome, List, None, Option, Some, false, option_map, reverse, subst, sym, true, ℕ}
 use Rattle.std.specs.List.{find, AllByRecursion as Each}
 use Rattle.vdm_kinds.specs.declared.member.VarRef.{VarRef}
 use Rattle.vdm_kinds.specs.declared.name.Name.{Name}
 use Rattle.vdm_kinds.specs.declared.place.Place.{Place}
-use Rattle.vdm_kinds.specs.declared.run_fault.RunFault.TheVariants.{Undefined}
+use Rattle.vdm_kinds.specs.declared.run_fault.RunFault.TheVariants.{TypeFault, Undefined}
 use Rattle.vdm_values.specs.declared.slot.Slot.{Slot}
 use Rattle.vdm_values.specs.declared.slot.Slot.TheVariants.{Unset, Held as Holds}
 use Rattle.abstract_syntax.specs.Classes.{SpecTree, is_same_name}
+use Rattle.abstract_syntax.specs.Values.{ValueTree, object, record_of}
 use Rattle.value_parts.proofs.Everywhere.{each_append}
 use Rattle.class_meaning.specs.Laws.{is_same_variable}
 use Rattle.run_journal.specs.declared.entry.Entry.{Entry}
-use Rattle.vdm_legal.proofs.Known.{IsKnownSlot}
+use Rattle.run_journal.specs.Parts.{object_part}
+use Rattle.vdm_legal.proofs.Known.{IsKnown, IsKnownSlot, IsThere}
 use Rattle.node_meaning.specs.Tasks.{reads, value, with_value}
-use Rattle.node_meaning.specs.Names.{variable_in}
-use Rattle.node_meaning.specs.Strict.{there}
-use Rattle.node_meaning.specs.Expressions.{held_value, name_value, read_found, read_held, read_on, slot_value}
+use Rattle.node_meaning.specs.Names.{value_in, variable_in}
+use Rattle.node_meaning.specs.Records.{field_value}
+use Rattle.node_meaning.specs.Expressions.{held_value, member_value, name_value, read_found, read_member, selected, value_named, read_held, read_on, slot_value}
 use Rattle.node_meaning.specs.Envs.{Locals, Here, Held, slot_held, local_named}
 use Rattle.vdm_meaning.specs.Main.{of_thread}
 use Rattle.vdm_meaning.proofs.Rules.{AreKnown, HasObject, HoldsKnown, IsSafe}
 use Rattle.vdm_meaning.proofs.Parts.{IsAt, at-among, may-fail, safe-value, safe-with_value}
+use Rattle.vdm_meaning.proofs.Strict.{safe-value_or_fault}
+use Rattle.vdm_meaning.proofs.Records.{field_value_keeps}
+use Rattle.vdm_meaning.proofs.Functions.{safe-class_value}
 use Rattle.vdm_meaning.proofs.Needs.{safe-asked}
 
 -- ---- what is found is known
@@ -59,7 +64,7 @@ module _ (spec : SpecTree) (first now : List Entry) (here : Here) (place : Place
   safe-slot (Holds v) known = safe-value spec (Some 3) v is_at known
   safe-slot Unset known = may-fail spec Undefined place is_at.may
 
-  safe-held : (found : Option Slot) → IfSome found (IsKnownSlot now) → IsSafe spec first now (held_value place found locals)
+  pub safe-held : (found : Option Slot) → IfSome found (IsKnownSlot now) → IsSafe spec first now (held_value place found locals)
   safe-held None known = may-fail spec Undefined place is_at.may
   safe-held (Some slot) known = safe-slot slot known
 
@@ -77,6 +82,25 @@ module _ (spec : SpecTree) (first now : List Entry) (here : Here) (place : Place
   safe-read_found None = may-fail spec Undefined place is_at.may
   safe-read_found (Some var) = safe-read_held var here.me here.held is_at.may.me is_at.may.held
 
+  safe-member_value : (scope : Option Name) (name : Name) (found : Option VarRef) → IsSafe spec first now (member_value (of_thread spec) here place scope name found locals)
+  safe-member_value scope name (Some ref) = safe-class_value spec first now here ref place here.depth locals is_at
+  safe-member_value scope name None = safe-read_found (variable_in spec scope name)
+
+  pub safe-value_named : (scope : Option Name) (name : Name) → IsSafe spec first now (value_named (of_thread spec) here place scope name locals)
+  safe-value_named scope name = safe-member_value scope name (value_in spec scope name)
+
   pub safe-name : (name : Name) (local : Option Slot) → IfSome local (IsKnownSlot now) → IsSafe spec first now (name_value (of_thread spec) here place name local locals)
   safe-name name (Some slot) known = safe-slot slot known
-  safe-name name None known = safe-read_found (variable_in spec here.scope name)
+  safe-name name None known = safe-value_named here.scope name
+
+  -- ---- selections
+
+  safe-read_member : (n : ℕ) (found : Option VarRef) → object_part n now ≢ [] → IsSafe spec first now (read_member (of_thread spec) place n found locals)
+  safe-read_member n None there = may-fail spec TypeFault place is_at.may
+  safe-read_member n (Some var) there = safe-read_on var (Some n) there
+
+  pub safe-selected : (name : Name) (v : ValueTree) → IsKnown now v → IsSafe spec first now (selected (of_thread spec) place name v locals)
+  safe-selected name (record_of class type values) known =
+      safe-value_or_fault spec place (field_value spec name class type values) is_at (field_value_keeps (IsThere now) spec name class type values known)
+  safe-selected name (object n class) known = safe-read_member n (variable_in spec (Some class) name) known
+  safe-selected name v known = may-fail spec TypeFault place is_at.may

@@ -4,7 +4,7 @@ use Rattle.std.specs.List.{AllByRecursion as Each}
 use Rattle.vdm_kinds.specs.declared.member.VarRef.{VarRef}
 use Rattle.vdm_kinds.specs.declared.name.Name.{Name}
 use Rattle.vdm_kinds.specs.declared.place.Place.{Place}
-use Rattle.vdm_kinds.specs.declared.run_fault.RunFault.TheVariants.{TypeFault, Undefined}
+use Rattle.vdm_kinds.specs.declared.run_fault.RunFault.TheVariants.{Undefined}
 use Rattle.vdm_values.specs.declared.slot.Slot.{Slot}
 use Rattle.vdm_values.specs.declared.slot.Slot.TheVariants.{Unset, Held}
 use Rattle.abstract_syntax.specs.Values.{object}
@@ -18,12 +18,13 @@ use Rattle.plans.specs.Plans.{ask}
 use Rattle.vdm_legal.proofs.Known.{IsKnownSlot, there-last}
 use Rattle.vdm_legal.proofs.Sanity.{IsQuiet, IsWithin, quiet-sane, quiet-within, within-self, within-then}
 use Rattle.node_meaning.specs.Envs.{Here, Locals}
-use Rattle.node_meaning.specs.Tasks.{Code, Flow, exited, fault, gave, next, noted, returned}
+use Rattle.node_meaning.specs.Tasks.{Code, Flow, exited, gave, next, noted, returned}
 use Rattle.node_meaning.specs.Objects.{created, initial_of, initial_then, initial_value, initialise, make_object, new_object}
 use Rattle.node_meaning.specs.Names.{variable_definition}
-use Rattle.node_meaning.specs.Types.{all_fit}
+use Rattle.node_meaning.specs.Fitting.{slots_fault}
 use Rattle.vdm_meaning.proofs.Rules.{GivesKnown, IsSafe, MayLeave}
-use Rattle.vdm_meaning.proofs.Parts.{IsAt, at-later, may-fail, safe-if, safe-value, slots-on}
+use Rattle.vdm_meaning.proofs.Parts.{IsAt, at-later, may-fail, safe-value, slots-on}
+use Rattle.vdm_meaning.proofs.Fitting.{safe-unless_fault}
 use Rattle.vdm_meaning.proofs.Asking.{safe-New}
 
 new-quiet : (class : Name) (slots : List Slot) → IsQuiet (deed.New class slots)
@@ -43,12 +44,11 @@ module _ (spec : SpecTree) (first : List Entry) (here : Here) (class : Name) (pl
 
   safe-make_object : (now : List Entry) (vars : List VarRef) (slots : List Slot) → IsAt first now here locals → AreKnownSlots now slots → IsSafe spec first now (make_object spec class place locals vars slots)
   safe-make_object now vars slots is_at known =
-      safe-if spec first now (all_fit spec vars slots) (ask (noted (New class slots)) (created class place locals)) (fault TypeFault place)
+      safe-unless_fault spec is_at place (slots_fault spec vars slots) (ask (noted (New class slots)) (created class place locals))
       (safe-New spec MayLeave first now 2 (created class place locals) class slots (record { ready = tt; sane = is_at.may.sane }) (λ o.
       let sane = quiet-sane now o (deed.New class slots) (new-quiet class slots) is_at.may.sane known refl in
       let within = quiet-within now o (deed.New class slots) (new-quiet class slots) in
       safe-value spec (Some 2) (object o class) (at-later is_at within sane) (there-last now o (deed.New class slots))))
-      (may-fail spec TypeFault place is_at.may)
 
   safe-initial_value : (now : List Entry) (rest : List Slot → Code) (slots : List Slot) (flow : Flow) → IsAt first now here locals → AreKnownSlots now slots → GivesKnown now flow → Fills now rest → IsSafe spec first now (initial_value place locals rest slots flow)
   safe-initial_value now rest slots (gave (Held v) inner) is_at known also fills = fills now (slots ++ Held v ∷ []) (within-self now) is_at (slot-more now slots (Held v) known also.0)

@@ -38,7 +38,7 @@ module _ (now later : List Entry) (w : IsWithin now later) where
   slots-on = each_wider (IsKnownSlot now) (IsKnownSlot later) (slot-on now w.more later w.behind)
 
 module _ (now more later : List Entry) (e : later ≡ now ++ more) where
-  locals-on : (locals : Locals) → AreKnown now locals → AreKnown later locals
+  pub locals-on : (locals : Locals) → AreKnown now locals → AreKnown later locals
   locals-on =
       each_wider (λ (l : Name × Slot). IsKnownSlot now l.1) (λ (l : Name × Slot). IsKnownSlot later l.1)
       (λ (l : Name × Slot). slot-on now more later e l.1)

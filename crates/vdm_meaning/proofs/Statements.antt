@@ -2,7 +2,7 @@
 use Rattle.std.proofs.Common.{◌≢◌, ◌∷◌, [], Bool, List, None, Option, Some, false, refl, ℕ}
 use Rattle.vdm_kinds.specs.declared.member.VarRef.{VarRef}
 use Rattle.vdm_kinds.specs.declared.place.Place.{Place}
-use Rattle.vdm_kinds.specs.declared.run_fault.RunFault.TheVariants.{TypeFault, Undefined}
+use Rattle.vdm_kinds.specs.declared.run_fault.RunFault.TheVariants.{Undefined}
 use Rattle.vdm_values.specs.declared.slot.Slot.TheVariants.{Unset, Held}
 use Rattle.abstract_syntax.specs.Classes.{SpecTree, VariableTree}
 use Rattle.abstract_syntax.specs.Values.{ValueTree}
@@ -19,12 +19,13 @@ use Rattle.plans.specs.Plans.{ask}
 use Rattle.vdm_legal.proofs.Known.{IsKnown}
 use Rattle.vdm_legal.proofs.Sanity.{IsQuiet, quiet-sane, quiet-within, within-self}
 use Rattle.node_meaning.specs.Envs.{Here, Locals}
-use Rattle.node_meaning.specs.Tasks.{Code, Flow, exited, fault, gave, next, noted, returned}
+use Rattle.node_meaning.specs.Tasks.{Code, Flow, exited, gave, next, noted, returned}
 use Rattle.node_meaning.specs.Names.{variable_definition, variable_in}
 use Rattle.node_meaning.specs.Statements.{written, write_of, write_typed, write_found, assigned, called, unless_ended, sequence, return_value, returned_of, stmt_plan}
-use Rattle.node_meaning.specs.Types.{fits}
+use Rattle.node_meaning.specs.Fitting.{type_fault}
 use Rattle.vdm_meaning.proofs.Rules.{GivesKnown, HasObject, IsSafe, MayLeave}
-use Rattle.vdm_meaning.proofs.Parts.{Goes, IsAt, at-among, at-later, may-fail, safe-evaluated, safe-finish, safe-if}
+use Rattle.vdm_meaning.proofs.Parts.{Goes, IsAt, at-among, at-later, may-fail, safe-evaluated, safe-finish}
+use Rattle.vdm_meaning.proofs.Fitting.{safe-unless_fault}
 use Rattle.vdm_meaning.proofs.Asking.{safe-ask}
 
 write-quiet : (pairs : List Pair) (refused : Bool) → IsQuiet (deed.Write pairs refused)
@@ -42,11 +43,11 @@ module _ (spec : SpecTree) (first : List Entry) (here : Here) where
       (record { ready = there; sane = is_at.may.sane })
       (safe-finish spec (Some 2) (next locals) at_then at_then.may.known)
 
-  safe-write_typed : (now : List Entry) (me : ℕ) (var : VarRef) (found : Option VariableTree) (place : Place) (v : ValueTree) (locals : Locals) → IsAt first now here locals → object_part me now ≢ [] → IsKnown now v → IsSafe spec first now (write_typed me var found place v locals)
+  safe-write_typed : (now : List Entry) (me : ℕ) (var : VarRef) (found : Option VariableTree) (place : Place) (v : ValueTree) (locals : Locals) → IsAt first now here locals → object_part me now ≢ [] → IsKnown now v → IsSafe spec first now (write_typed spec me var found place v locals)
   safe-write_typed now me var None place v locals is_at there known = may-fail spec Undefined place is_at.may
   safe-write_typed now me var (Some definition) place v locals is_at there known =
-      safe-if spec first now (fits definition.declared v) (ask (noted (Write me (write_of var v ∷ []))) (written place locals)) (fault TypeFault place)
-      (safe-write now me var place v locals is_at there known) (may-fail spec TypeFault place is_at.may)
+      safe-unless_fault spec is_at place (type_fault spec (Some var.class) definition.declared v) (ask (noted (Write me (write_of var v ∷ []))) (written place locals))
+      (safe-write now me var place v locals is_at there known)
 
   safe-write_found : (now : List Entry) (me : Option ℕ) (found : Option VarRef) (place : Place) (v : ValueTree) (locals : Locals) → IsAt first now here locals → HasObject now me → IsKnown now v → IsSafe spec first now (write_found spec me found place v locals)
   safe-write_found now (Some me) (Some var) place v locals is_at there known = safe-write_typed now me var (variable_definition spec var) place v locals is_at there known

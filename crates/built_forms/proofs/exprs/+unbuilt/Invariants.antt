@@ -1,6 +1,6 @@
 use Rattle.std.proofs.Common.{◌≡◌, map, drop}
-use Rattle.text_phases.specs.Built.{unbuilt_in_exprs, unbuilt_in_maplets, unbuilt_in_defined, unbuilt_in_branches, unbuilt_in_cases, unbuilt_in_binds, unbuilt_in_patterns, unbuilt_in_maplet_patterns}
-use Rattle.expr_tree.specs.View.{views_of, expr_trees, maplet_view, maplet_trees, defined_view, defined_trees, branch_view, branch_trees, case_view, case_trees, bind_view, bind_trees, pattern_views, pattern_trees, maplet_pattern_view, maplet_pattern_trees}
+use Rattle.text_phases.specs.Built.{unbuilt_in_exprs, unbuilt_in_maplets, unbuilt_in_field_values, unbuilt_in_defined, unbuilt_in_branches, unbuilt_in_cases, unbuilt_in_binds, unbuilt_in_patterns, unbuilt_in_maplet_patterns}
+use Rattle.expr_tree.specs.View.{views_of, expr_trees, maplet_view, maplet_trees, field_value_view, field_value_trees, defined_view, defined_trees, branch_view, branch_trees, case_view, case_trees, bind_view, bind_trees, pattern_views, pattern_trees, maplet_pattern_view, maplet_pattern_trees}
 use Rattle.built_forms.proofs.exprs.+unbuilt.Given as goal
 
 -- in each list: those so far are built, so that the rest decides
@@ -13,6 +13,11 @@ abbrev pub invariant-in_maplets-loop-maplet : goal.invariant-in_maplets-loop-map
 invariant-in_maplets-loop-maplet l =
     unbuilt_in_maplets (maplet_trees (map maplet_view (drop l.maplet-index l.maplets)))
     ≡ unbuilt_in_maplets (maplet_trees (map maplet_view l.maplets))
+
+abbrev pub invariant-in_field_values-loop-field : goal.invariant-in_field_values-loop-field
+invariant-in_field_values-loop-field l =
+    unbuilt_in_field_values (field_value_trees (map field_value_view (drop l.field-index l.fields)))
+    ≡ unbuilt_in_field_values (field_value_trees (map field_value_view l.fields))
 
 abbrev pub invariant-in_definitions-loop-defined : goal.invariant-in_definitions-loop-defined
 invariant-in_definitions-loop-defined l =

@@ -7,3 +7,13 @@ pub returns-in-Chosen : goal.returns-in-Chosen
 returns-in-Chosen c =
     if_ok c.choice_decided.result c.choice_decided.ensures (λ s is asker.
     is (set c.args.table.now asker) refl ∙ c.in-Chosen.ensures (set c.args.table.now asker) c.args.locals.now.items)
+
+pub returns-in-Pre : goal.returns-in-Pre
+returns-in-Pre c = λ asker.
+    c.pre_decided.ensures (set c.args.table.now asker) c.args.locals.now.items
+    ∙ c.in-Pre.ensures (set c.args.table.now asker) c.args.locals.now.items
+
+pub returns-in-Post : goal.returns-in-Post
+returns-in-Post c = λ asker.
+    c.post_decided.ensures (set c.args.table.now asker)
+    ∙ c.in-Post.ensures (set c.args.table.now asker) c.args.locals.now.items

@@ -1,0 +1,131 @@
+-- Definitions, classes and specifications that are built have a meaning.
+use Rattle.std.proofs.Common.{◌≡◌, ℕ, Bool, List, [], ◌∷◌, ◌++◌, Option, Some, None, refl}
+use Rattle.vdm_kinds.specs.declared.name.Name.{Name}
+use Rattle.abstract_syntax.specs.Expressions.{ExprTree, PatternTree}
+use Rattle.abstract_syntax.specs.Classes.{
+  InvariantTree,
+  TypeDefTree,
+  ValueDefTree,
+  VariableItem,
+  variable_item,
+  invariant_item,
+  Body,
+  written,
+  not_yet_specified,
+  subclass_responsibility,
+  FunctionTree,
+  OperationTree,
+  BlockTree,
+  types,
+  values,
+  variables,
+  functions,
+  operations,
+  thread_of,
+  synchronisation,
+  ClassTree,
+  SpecTree,
+}
+use Rattle.pattern_meaning.specs.Brackets.{given_in, given_in_list}
+use Rattle.text_phases.specs.Built.{unless, unbuilt_in_invariant, unbuilt_in_types, unbuilt_in_values, unbuilt_in_each_pattern, unbuilt_if_written, unbuilt_if_given, unbuilt_in_function, unbuilt_in_functions, unbuilt_in_items, unbuilt_in_operations, unbuilt_in_class_block, unbuilt_in_class_blocks, unbuilt_in_superclasses, unbuilt_in_class, unbuilt_in_classes, stands_alone, unbuilt_in_spec, IsBuiltExpr}
+use Rattle.built_laws.specs.Meant.{Each, IsMeant}
+use Rattle.built_laws.specs.MeantClasses.{body_part, given_part, function_parts, IsMeantFunction, HasNoInvariant, IsMeantValue, IsMeantItem, IsMeantOperation, IsMeantBlock, IsMeantClass, IsMeantSpec}
+use Rattle.built_laws.proofs.Exprs.{expr_meant}
+use Rattle.built_laws.proofs.Lists.{each-append, each-weaker}
+use Rattle.built_laws.proofs.Nothing.{first-none, behind-none, told-none}
+use Rattle.built_laws.proofs.PartsBuilt.{given_built}
+use Rattle.built_laws.proofs.Stmts.{operation_meant, variable_meant}
+
+-- ---- functions
+
+patterns_built : (ps : List PatternTree) → unbuilt_in_each_pattern ps ≡ None → Each IsBuiltExpr (given_in_list ps)
+patterns_built [] h = tt
+patterns_built (p ∷ ps) h =
+    each-append IsBuiltExpr (given_in p) (given_in_list ps) (given_built p (first-none _ _ h)) (patterns_built ps (behind-none _ _ h))
+
+body_built : (body : Body ExprTree) → unbuilt_if_written body ≡ None → Each IsBuiltExpr (body_part body)
+body_built (written body) h = (h, tt)
+body_built not_yet_specified h = tt
+body_built subclass_responsibility h = tt
+
+given_part_built : (part : Option ExprTree) → unbuilt_if_given part ≡ None → Each IsBuiltExpr (given_part part)
+given_part_built None h = tt
+given_part_built (Some part) h = (h, tt)
+
+function_built : (f : FunctionTree) → unbuilt_in_function f ≡ None → Each IsBuiltExpr (function_parts f)
+function_built f h =
+    let behind = behind-none (unbuilt_in_each_pattern f.patterns) _ h in
+    let last = behind-none (unbuilt_if_written f.body) _ behind in
+    each-append IsBuiltExpr (given_in_list f.patterns) (body_part f.body ++ (given_part f.pre ++ given_part f.post))
+    (patterns_built f.patterns (first-none (unbuilt_in_each_pattern f.patterns) _ h))
+    (each-append IsBuiltExpr (body_part f.body) (given_part f.pre ++ given_part f.post)
+    (body_built f.body (first-none (unbuilt_if_written f.body) _ behind))
+    (each-append IsBuiltExpr (given_part f.pre) (given_part f.post)
+    (given_part_built f.pre (first-none (unbuilt_if_given f.pre) (unbuilt_if_given f.post) last))
+    (given_part_built f.post (behind-none (unbuilt_if_given f.pre) (unbuilt_if_given f.post) last))))
+
+pub function_meant : (levels : ℕ) (f : FunctionTree) → unbuilt_in_function f ≡ None → IsMeantFunction levels f
+function_meant levels f h = each-weaker IsBuiltExpr (IsMeant levels) (expr_meant levels) (function_parts f) (function_built f h)
+
+-- ---- lists of definitions
+
+no_invariant : (i : Option InvariantTree) → unbuilt_in_invariant i ≡ None → i ≡ None
+no_invariant None h = refl
+no_invariant (Some i) h = told-none _ h
+
+pub types_plain : (ts : List TypeDefTree) → unbuilt_in_types ts ≡ None → Each HasNoInvariant ts
+types_plain [] h = tt
+types_plain (t ∷ ts) h = (
+  no_invariant t.invariant (first-none (unbuilt_in_invariant t.invariant) (unbuilt_in_types ts) h),
+  types_plain ts (behind-none (unbuilt_in_invariant t.invariant) (unbuilt_in_types ts) h),
+)
+
+values_meant : (levels : ℕ) (vs : List ValueDefTree) → unbuilt_in_values vs ≡ None → Each (IsMeantValue levels) vs
+values_meant levels [] h = tt
+values_meant levels (v ∷ vs) h = (expr_meant levels v.value (first-none _ _ h), values_meant levels vs (behind-none _ _ h))
+
+items_meant : (levels : ℕ) (items : List VariableItem) → unbuilt_in_items items ≡ None → Each (IsMeantItem levels) items
+items_meant levels [] h = tt
+items_meant levels (variable_item v ∷ items) h = (variable_meant levels v (first-none _ _ h), items_meant levels items (behind-none _ _ h))
+items_meant levels (invariant_item condition place ∷ items) h = told-none _ h
+
+functions_meant : (levels : ℕ) (fs : List FunctionTree) → unbuilt_in_functions fs ≡ None → Each (IsMeantFunction levels) fs
+functions_meant levels [] h = tt
+functions_meant levels (f ∷ fs) h = (function_meant levels f (first-none _ _ h), functions_meant levels fs (behind-none _ _ h))
+
+operations_meant : (levels : ℕ) (class : Name) (os : List OperationTree) → unbuilt_in_operations class os ≡ None
+    → Each (IsMeantOperation levels) os
+operations_meant levels class [] h = tt
+operations_meant levels class (o ∷ os) h =
+    (operation_meant levels class o (first-none _ _ h), operations_meant levels class os (behind-none _ _ h))
+
+-- ---- classes
+
+block_meant : (levels : ℕ) (alone : Bool) (class : Name) (b : BlockTree) → unbuilt_in_class_block alone class b ≡ None → IsMeantBlock levels b
+block_meant levels alone class (types definitions place) h = types_plain definitions h
+block_meant levels alone class (values definitions place) h = values_meant levels definitions h
+block_meant levels alone class (variables items place) h = items_meant levels items (behind-none (unless alone place) _ h)
+block_meant levels alone class (functions definitions place) h = functions_meant levels definitions h
+block_meant levels alone class (operations definitions place) h =
+    operations_meant levels class definitions (behind-none (unless alone place) _ h)
+block_meant levels alone class (thread_of thread place) h = told-none _ h
+block_meant levels alone class (synchronisation clauses place) h = told-none _ h
+
+blocks_meant : (levels : ℕ) (alone : Bool) (class : Name) (bs : List BlockTree) → unbuilt_in_class_blocks alone class bs ≡ None
+    → Each (IsMeantBlock levels) bs
+blocks_meant levels alone class [] h = tt
+blocks_meant levels alone class (b ∷ bs) h = (
+  block_meant levels alone class b (first-none (unbuilt_in_class_block alone class b) _ h),
+  blocks_meant levels alone class bs (behind-none (unbuilt_in_class_block alone class b) _ h),
+)
+
+classes_meant : (levels : ℕ) (alone : Bool) (cs : List ClassTree) → unbuilt_in_classes alone cs ≡ None → Each (IsMeantClass levels) cs
+classes_meant levels alone [] h = tt
+classes_meant levels alone (c ∷ cs) h =
+    let here = first-none (unbuilt_in_class alone c) (unbuilt_in_classes alone cs) h in (
+      blocks_meant levels alone c.name c.blocks (behind-none (unbuilt_in_superclasses c.superclasses) _ here),
+      classes_meant levels alone cs (behind-none (unbuilt_in_class alone c) (unbuilt_in_classes alone cs) h),
+    )
+
+pub spec_meant : (levels : ℕ) (spec : SpecTree) → unbuilt_in_spec spec ≡ None → IsMeantSpec levels spec
+spec_meant levels spec h = classes_meant levels (stands_alone spec) spec.classes h

@@ -1,0 +1,82 @@
+-- Classes with a meaning: each node of what is evaluated of their definitions has a plan of its own.
+use Rattle.std.specs.Prelude.{◌≡◌, ℕ, List, [], ◌∷◌, ◌++◌, Option, Some, None}
+use Rattle.abstract_syntax.specs.Expressions.{ExprTree}
+use Rattle.abstract_syntax.specs.Classes.{
+  TypeDefTree,
+  ValueDefTree,
+  VariableItem,
+  variable_item,
+  invariant_item,
+  Body,
+  written,
+  not_yet_specified,
+  subclass_responsibility,
+  FunctionTree,
+  OperationTree,
+  BlockTree,
+  types,
+  values,
+  variables,
+  functions,
+  operations,
+  thread_of,
+  synchronisation,
+  ClassTree,
+  SpecTree,
+}
+use Rattle.pattern_meaning.specs.Brackets.{given_in_list}
+use Rattle.built_laws.specs.Meant.{Each, IsMeant}
+use Rattle.built_laws.specs.MeantStmts.{IsMeantBody}
+
+-- ---- functions
+
+abbrev pub body_part : Body ExprTree → List ExprTree
+body_part (written body) = body ∷ []
+body_part not_yet_specified = []
+body_part subclass_responsibility = []
+
+abbrev pub given_part : Option ExprTree → List ExprTree
+given_part None = []
+given_part (Some part) = part ∷ []
+
+-- what is evaluated of a function, in text order
+abbrev pub function_parts : FunctionTree → List ExprTree
+function_parts f = given_in_list f.patterns ++ (body_part f.body ++ (given_part f.pre ++ given_part f.post))
+
+abbrev pub IsMeantFunction : ℕ → FunctionTree → Type 0
+IsMeantFunction levels f = Each (IsMeant levels) (function_parts f)
+
+-- ---- the other definitions
+
+-- no invariant of a type has a meaning yet
+abbrev pub HasNoInvariant : TypeDefTree → Type 0
+HasNoInvariant t = t.invariant ≡ None
+
+abbrev pub IsMeantValue : ℕ → ValueDefTree → Type 0
+IsMeantValue levels v = IsMeant levels v.value
+
+-- a variable has an initial value; no invariant has a meaning yet
+abbrev pub IsMeantItem : ℕ → VariableItem → Type 0
+IsMeantItem levels (variable_item v) = (value : ExprTree) × (v.initial ≡ Some value) × IsMeant levels value
+IsMeantItem levels (invariant_item condition place) = ⊥
+
+abbrev pub IsMeantOperation : ℕ → OperationTree → Type 0
+IsMeantOperation levels o = IsMeantBody levels o.body
+
+-- ---- whole specifications
+
+-- no thread and no synchronisation has a meaning yet
+abbrev pub IsMeantBlock : ℕ → BlockTree → Type 0
+IsMeantBlock levels (types definitions place) = Each HasNoInvariant definitions
+IsMeantBlock levels (values definitions place) = Each (IsMeantValue levels) definitions
+IsMeantBlock levels (variables items place) = Each (IsMeantItem levels) items
+IsMeantBlock levels (functions definitions place) = Each (IsMeantFunction levels) definitions
+IsMeantBlock levels (operations definitions place) = Each (IsMeantOperation levels) definitions
+IsMeantBlock levels (thread_of thread place) = ⊥
+IsMeantBlock levels (synchronisation clauses place) = ⊥
+
+abbrev pub IsMeantClass : ℕ → ClassTree → Type 0
+IsMeantClass levels class = Each (IsMeantBlock levels) class.blocks
+
+abbrev pub IsMeantSpec : ℕ → SpecTree → Type 0
+IsMeantSpec levels spec = Each (IsMeantClass levels) spec.classes

@@ -1,0 +1,18 @@
+//! What functions and class values do: steps of the evaluation of expressions.
+#![tactic(auto)]
+
+mod applications;
+mod arguments;
+mod bodies;
+mod brackets;
+mod class_values;
+mod look_ups;
+mod parameters;
+mod parts;
+mod results;
+
+pub use applications::applied;
+pub use bodies::pre_decided;
+pub use class_values::{class_value, value_given};
+pub use parameters::bound;
+pub use results::{post_decided, result_given, result_name};

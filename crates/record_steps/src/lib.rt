@@ -1,0 +1,17 @@
+//! What records do: how they are made and changed, and what a member of a value has.
+#![tactic(auto)]
+
+mod changing;
+mod fields;
+mod made;
+mod making;
+mod nodes;
+mod placing;
+mod selecting;
+mod types;
+
+pub use changing::record_changed;
+pub use fields::field_value;
+pub use making::record_made;
+pub use nodes::{make_record, modify_record};
+pub use selecting::selected;
