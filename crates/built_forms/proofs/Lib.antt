@@ -1,3 +1,1 @@
-pub mod Groups
 pub mod Last
-pub mod Printing

@@ -6,8 +6,8 @@ ghost use Rattle.text_phases.specs.Built.{unbuilt_in_class_block, unbuilt_in_cla
 ghost use Rattle.vdm_tree.specs.ClassView.{class_view, block_view};
 
 use crate::definitions::{unbuilt_in_functions, unbuilt_in_types, unbuilt_in_values};
-use crate::leaves::{unbuilt_of_io, unless};
 use crate::members::{unbuilt_in_items, unbuilt_in_operations};
+use built_nodes::{unbuilt_of_io, unless};
 use vdm_kinds::{Name, NameAt, Place};
 use vdm_tree::{Block, ClassDef};
 

@@ -6,21 +6,23 @@ ghost use Rattle.expr_tree.specs.View.{boxed_view, pattern_views};
 ghost use Rattle.expr_tree.specs.TypeDefView.{invariant_view, type_def_view};
 ghost use Rattle.vdm_tree.specs.ClassView.{value_def_view, function_view, body_view};
 
-use crate::exprs::{in_pattern, unbuilt_in_expr};
+use built_exprs::{unbuilt_in_expr, unbuilt_in_pattern};
 use vdm_kinds::Place;
 use vdm_tree::{Body, Expr, FunctionDef, Pattern, TypeDef, TypeInvariant, ValueDef};
 
-/// Where the pattern of an invariant stands.
+/// Where the first form of an invariant stands that is not built.
 fn unbuilt_in_invariant(invariant: &Option<TypeInvariant>) -> Option<Place>
     ensures { result ≡ unbuilt_in_invariant (option_map invariant_view invariant.now) }
 {
     match invariant {
-        Some(invariant) => Some(invariant.pattern.place()),
+        Some(invariant) => {
+            unbuilt_in_pattern(&invariant.pattern).or(unbuilt_in_expr(&invariant.condition))
+        }
         None => None,
     }
 }
 
-/// Where the first invariant stands among types.
+/// Where the first form stands that is not built among types.
 pub(crate) fn unbuilt_in_types(types: &[TypeDef]) -> Option<Place>
     ensures { result ≡ unbuilt_in_types (map type_def_view types.now) }
 {
@@ -50,7 +52,7 @@ fn unbuilt_in_each_pattern(patterns: &[Pattern]) -> Option<Place>
     ensures { result ≡ unbuilt_in_each_pattern (pattern_views patterns.now) }
 {
     for pattern in patterns {
-        if let Some(place) = in_pattern(pattern) {
+        if let Some(place) = unbuilt_in_pattern(pattern) {
             return Some(place);
         }
     }

@@ -8,7 +8,7 @@ ghost use Rattle.expr_tree.specs.View.{view_of};
 ghost use Rattle.vdm_tree.specs.ClassView.{class_view};
 
 use crate::classes::unbuilt_in_classes;
-use crate::exprs::unbuilt_in_expr;
+use built_exprs::unbuilt_in_expr;
 use vdm_kinds::{Place, SpecFault, SpecKind};
 use vdm_tree::{ClassDef, Expr};
 

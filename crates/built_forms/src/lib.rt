@@ -3,9 +3,7 @@
 
 mod classes;
 mod definitions;
-mod exprs;
 mod faults;
-mod leaves;
 mod members;
 mod statements;
 

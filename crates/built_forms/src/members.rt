@@ -8,8 +8,8 @@ ghost use Rattle.vdm_tree.specs.StmtView.{boxed_stmt};
 ghost use Rattle.vdm_tree.specs.ClassView.{variable_view, variable_item_view, operation_view, body_view};
 
 use crate::definitions::unbuilt_if_given;
-use crate::leaves::{expr_first, unless};
 use crate::statements::{unbuilt_in_block, unbuilt_in_stmt};
+use built_nodes::{expr_first, unless};
 use vdm_kinds::{Name, Place};
 use vdm_tree::{Access, Body, Expr, Level, OpDef, Pattern, Stmt, TypeExpr, VarDef, VariableItem};
 

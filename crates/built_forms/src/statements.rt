@@ -4,7 +4,7 @@ ghost use Rattle.std.specs.Prelude.{◌≡◌, map};
 ghost use Rattle.text_phases.specs.Built.{unbuilt_in_target, unbuilt_in_locals, unbuilt_in_stmt, unbuilt_in_stmts, unbuilt_in_return, unbuilt_to_return, unbuilt_in_block, step_place, or_behind};
 ghost use Rattle.vdm_tree.specs.StmtView.{stmt_view, stmt_views, stmt_trees, target_view, target_step_view, dcl_view};
 
-use crate::exprs::{unbuilt_in_call, unbuilt_in_expr};
+use built_exprs::{unbuilt_in_call, unbuilt_in_expr};
 use vdm_kinds::Place;
 use vdm_tree::{Dcl, Stmt, Target, TargetStep};
 

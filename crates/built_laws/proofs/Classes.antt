@@ -1,5 +1,5 @@
 -- Definitions, classes and specifications that are built have a meaning.
-use Rattle.std.proofs.Common.{◌≡◌, ℕ, Bool, List, [], ◌∷◌, ◌++◌, Option, Some, None, refl}
+use Rattle.std.proofs.Common.{◌≡◌, ℕ, Bool, List, [], ◌∷◌, ◌++◌, Option, Some, None}
 use Rattle.vdm_kinds.specs.declared.name.Name.{Name}
 use Rattle.abstract_syntax.specs.Expressions.{ExprTree, PatternTree}
 use Rattle.abstract_syntax.specs.Classes.{
@@ -27,9 +27,9 @@ use Rattle.abstract_syntax.specs.Classes.{
   SpecTree,
 }
 use Rattle.pattern_meaning.specs.Brackets.{given_in, given_in_list}
-use Rattle.text_phases.specs.Built.{unless, unbuilt_in_invariant, unbuilt_in_types, unbuilt_in_values, unbuilt_in_each_pattern, unbuilt_if_written, unbuilt_if_given, unbuilt_in_function, unbuilt_in_functions, unbuilt_in_items, unbuilt_in_operations, unbuilt_in_class_block, unbuilt_in_class_blocks, unbuilt_in_superclasses, unbuilt_in_class, unbuilt_in_classes, stands_alone, unbuilt_in_spec, IsBuiltExpr}
+use Rattle.text_phases.specs.Built.{unless, unbuilt_in_expr, unbuilt_in_pattern, unbuilt_in_invariant, unbuilt_in_types, unbuilt_in_values, unbuilt_in_each_pattern, unbuilt_if_written, unbuilt_if_given, unbuilt_in_function, unbuilt_in_functions, unbuilt_in_items, unbuilt_in_operations, unbuilt_in_class_block, unbuilt_in_class_blocks, unbuilt_in_superclasses, unbuilt_in_class, unbuilt_in_classes, stands_alone, unbuilt_in_spec, IsBuiltExpr}
 use Rattle.built_laws.specs.Meant.{Each, IsMeant}
-use Rattle.built_laws.specs.MeantClasses.{body_part, given_part, function_parts, IsMeantFunction, HasNoInvariant, IsMeantValue, IsMeantItem, IsMeantOperation, IsMeantBlock, IsMeantClass, IsMeantSpec}
+use Rattle.built_laws.specs.MeantClasses.{body_part, given_part, function_parts, IsMeantFunction, invariant_parts, IsMeantType, IsMeantValue, IsMeantItem, IsMeantOperation, IsMeantBlock, IsMeantClass, IsMeantSpec}
 use Rattle.built_laws.proofs.Exprs.{expr_meant}
 use Rattle.built_laws.proofs.Lists.{each-append, each-weaker}
 use Rattle.built_laws.proofs.Nothing.{first-none, behind-none, told-none}
@@ -67,17 +67,26 @@ function_built f h =
 pub function_meant : (levels : ℕ) (f : FunctionTree) → unbuilt_in_function f ≡ None → IsMeantFunction levels f
 function_meant levels f h = each-weaker IsBuiltExpr (IsMeant levels) (expr_meant levels) (function_parts f) (function_built f h)
 
+-- ---- types
+
+invariant_built : (i : Option InvariantTree) → unbuilt_in_invariant i ≡ None → Each IsBuiltExpr (invariant_parts i)
+invariant_built None h = tt
+invariant_built (Some i) h =
+    each-append IsBuiltExpr (given_in i.pattern) (i.condition ∷ [])
+    (given_built i.pattern (first-none (unbuilt_in_pattern i.pattern) (unbuilt_in_expr i.condition) h))
+    (behind-none (unbuilt_in_pattern i.pattern) (unbuilt_in_expr i.condition) h, tt)
+
+pub type_meant : (levels : ℕ) (t : TypeDefTree) → unbuilt_in_invariant t.invariant ≡ None → IsMeantType levels t
+type_meant levels t h =
+    each-weaker IsBuiltExpr (IsMeant levels) (expr_meant levels) (invariant_parts t.invariant) (invariant_built t.invariant h)
+
 -- ---- lists of definitions
 
-no_invariant : (i : Option InvariantTree) → unbuilt_in_invariant i ≡ None → i ≡ None
-no_invariant None h = refl
-no_invariant (Some i) h = told-none _ h
-
-pub types_plain : (ts : List TypeDefTree) → unbuilt_in_types ts ≡ None → Each HasNoInvariant ts
-types_plain [] h = tt
-types_plain (t ∷ ts) h = (
-  no_invariant t.invariant (first-none (unbuilt_in_invariant t.invariant) (unbuilt_in_types ts) h),
-  types_plain ts (behind-none (unbuilt_in_invariant t.invariant) (unbuilt_in_types ts) h),
+types_meant : (levels : ℕ) (ts : List TypeDefTree) → unbuilt_in_types ts ≡ None → Each (IsMeantType levels) ts
+types_meant levels [] h = tt
+types_meant levels (t ∷ ts) h = (
+  type_meant levels t (first-none (unbuilt_in_invariant t.invariant) (unbuilt_in_types ts) h),
+  types_meant levels ts (behind-none (unbuilt_in_invariant t.invariant) (unbuilt_in_types ts) h),
 )
 
 values_meant : (levels : ℕ) (vs : List ValueDefTree) → unbuilt_in_values vs ≡ None → Each (IsMeantValue levels) vs
@@ -102,7 +111,7 @@ operations_meant levels class (o ∷ os) h =
 -- ---- classes
 
 block_meant : (levels : ℕ) (alone : Bool) (class : Name) (b : BlockTree) → unbuilt_in_class_block alone class b ≡ None → IsMeantBlock levels b
-block_meant levels alone class (types definitions place) h = types_plain definitions h
+block_meant levels alone class (types definitions place) h = types_meant levels definitions h
 block_meant levels alone class (values definitions place) h = values_meant levels definitions h
 block_meant levels alone class (variables items place) h = items_meant levels items (behind-none (unless alone place) _ h)
 block_meant levels alone class (functions definitions place) h = functions_meant levels definitions h

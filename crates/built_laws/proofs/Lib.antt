@@ -4,7 +4,6 @@ pub mod PartsBuilt
 pub mod Exprs
 pub mod Stmts
 pub mod Classes
-pub mod Quiet
-pub mod TypeTests
 pub mod OfIo
 pub mod Plans
+pub mod AskedFor

@@ -2,3 +2,4 @@ pub mod Parts
 pub mod Meant
 pub mod MeantStmts
 pub mod MeantClasses
+pub mod Asked

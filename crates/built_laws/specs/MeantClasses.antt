@@ -2,6 +2,7 @@
 use Rattle.std.specs.Prelude.{◌≡◌, ℕ, List, [], ◌∷◌, ◌++◌, Option, Some, None}
 use Rattle.abstract_syntax.specs.Expressions.{ExprTree}
 use Rattle.abstract_syntax.specs.Classes.{
+  InvariantTree,
   TypeDefTree,
   ValueDefTree,
   VariableItem,
@@ -24,7 +25,7 @@ use Rattle.abstract_syntax.specs.Classes.{
   ClassTree,
   SpecTree,
 }
-use Rattle.pattern_meaning.specs.Brackets.{given_in_list}
+use Rattle.pattern_meaning.specs.Brackets.{given_in, given_in_list}
 use Rattle.built_laws.specs.Meant.{Each, IsMeant}
 use Rattle.built_laws.specs.MeantStmts.{IsMeantBody}
 
@@ -46,16 +47,22 @@ function_parts f = given_in_list f.patterns ++ (body_part f.body ++ (given_part 
 abbrev pub IsMeantFunction : ℕ → FunctionTree → Type 0
 IsMeantFunction levels f = Each (IsMeant levels) (function_parts f)
 
--- ---- the other definitions
+-- ---- types
 
--- no invariant of a type has a meaning yet
-abbrev pub HasNoInvariant : TypeDefTree → Type 0
-HasNoInvariant t = t.invariant ≡ None
+-- what is evaluated of an invariant, in text order
+abbrev pub invariant_parts : Option InvariantTree → List ExprTree
+invariant_parts None = []
+invariant_parts (Some invariant) = given_in invariant.pattern ++ (invariant.condition ∷ [])
+
+abbrev pub IsMeantType : ℕ → TypeDefTree → Type 0
+IsMeantType levels t = Each (IsMeant levels) (invariant_parts t.invariant)
+
+-- ---- the other definitions
 
 abbrev pub IsMeantValue : ℕ → ValueDefTree → Type 0
 IsMeantValue levels v = IsMeant levels v.value
 
--- a variable has an initial value; no invariant has a meaning yet
+-- a variable has an initial value; no invariant of an instance has a meaning yet
 abbrev pub IsMeantItem : ℕ → VariableItem → Type 0
 IsMeantItem levels (variable_item v) = (value : ExprTree) × (v.initial ≡ Some value) × IsMeant levels value
 IsMeantItem levels (invariant_item condition place) = ⊥
@@ -67,7 +74,7 @@ IsMeantOperation levels o = IsMeantBody levels o.body
 
 -- no thread and no synchronisation has a meaning yet
 abbrev pub IsMeantBlock : ℕ → BlockTree → Type 0
-IsMeantBlock levels (types definitions place) = Each HasNoInvariant definitions
+IsMeantBlock levels (types definitions place) = Each (IsMeantType levels) definitions
 IsMeantBlock levels (values definitions place) = Each (IsMeantValue levels) definitions
 IsMeantBlock levels (variables items place) = Each (IsMeantItem levels) items
 IsMeantBlock levels (functions definitions place) = Each (IsMeantFunction levels) definitions

@@ -9,8 +9,7 @@ ghost use Rattle.abstract_syntax.specs.Values.{ValueTree};
 ghost use Rattle.abstract_syntax.specs.Types.{TypeTree};
 ghost use Rattle.abstract_syntax.specs.Expressions.{ExprTree, expr_place};
 ghost use Rattle.abstract_syntax.specs.Statements.{TargetTree, StmtTree, stmt_place};
-ghost use Rattle.abstract_syntax.specs.Classes.{VariableTree, FunctionTree, OperationTree, SpecTree};
-ghost use Rattle.type_meaning.specs.Tests.{Fitting, decided};
+ghost use Rattle.abstract_syntax.specs.Classes.{TypeDefTree, VariableTree, FunctionTree, OperationTree, SpecTree};
 ghost use Rattle.node_meaning.specs.Envs.{Locals, Here};
 ghost use Rattle.node_meaning.specs.Fitting.{fitting_in};
 ghost use Rattle.node_meaning.specs.Expressions.{expr_plan};
@@ -18,9 +17,10 @@ ghost use Rattle.node_meaning.specs.Needs.{Setting};
 ghost use Rattle.node_meaning.specs.Statements.{assigned, stmt_plan};
 ghost use Rattle.node_meaning.specs.TaskPlans.{bare_call};
 ghost use Rattle.node_meaning.specs.Tasks.{fault};
-ghost use Rattle.text_phases.specs.Built.{unbuilt_in_expr, unbuilt_in_function, unbuilt_in_operation, unbuilt_in_variable, unbuilt_in_spec};
+ghost use Rattle.text_phases.specs.Built.{unbuilt_in_expr, unbuilt_in_invariant, unbuilt_in_function, unbuilt_in_operation, unbuilt_in_variable, unbuilt_in_spec};
+ghost use Rattle.built_laws.specs.Asked.{AsksInvariants};
 ghost use Rattle.built_laws.specs.Meant.{has_plan, IsMeant};
-ghost use Rattle.built_laws.specs.MeantClasses.{IsMeantFunction, IsMeantSpec};
+ghost use Rattle.built_laws.specs.MeantClasses.{IsMeantFunction, IsMeantType, IsMeantSpec};
 ghost use Rattle.built_laws.specs.MeantStmts.{does_something, is_whole_variable, is_application, IsMeantBody};
 
 /// Each node of a built expression has a meaning, however deep one looks, and none asks an object to print.
@@ -44,16 +44,19 @@ pub fn built_functions_have_meaning()
     ensures { (levels : ℕ) (f : FunctionTree) → unbuilt_in_function f ≡ None → IsMeantFunction levels f }
 {}
 
-/// So has each definition of a built specification, in whichever class. It has no types with invariants, no threads and no
-/// synchronisation.
+/// So has what is evaluated of the invariant of a built type: its pattern, and its condition.
+pub fn built_types_have_meaning()
+    ensures { (levels : ℕ) (t : TypeDefTree) → unbuilt_in_invariant t.invariant ≡ None → IsMeantType levels t }
+{}
+
+/// So has each definition of a built specification, in whichever class. It has no threads and no synchronisation.
 pub fn built_specifications_have_meaning()
     ensures { (levels : ℕ) (spec : SpecTree) → unbuilt_in_spec spec ≡ None → IsMeantSpec levels spec }
 {}
 
-/// In a built specification a test of a value against a type asks for no invariant: it is decided, and never undefined.
-pub fn built_types_are_decided()
-    ensures { (spec : SpecTree) → unbuilt_in_spec spec ≡ None → (scope : Option Name) (t : TypeTree) (v : ValueTree)
-        → (f : Fitting) × (fitting_in spec scope t v ≡ decided f) }
+/// A test of a value against a type asks for no invariant of a type that has none.
+pub fn invariants_that_are_asked_for_are_there()
+    ensures { (spec : SpecTree) (scope : Option Name) (t : TypeTree) (v : ValueTree) → AsksInvariants (fitting_in spec scope t v) }
 {}
 
 /// What has no meaning is a fault at its place.

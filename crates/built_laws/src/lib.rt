@@ -5,6 +5,6 @@ mod laws;
 
 pub use laws::{
     built_bodies_have_meaning, built_expressions_have_meaning, built_functions_have_meaning,
-    built_specifications_have_meaning, built_types_are_decided, built_variables_have_meaning,
-    others_are_undefined,
+    built_specifications_have_meaning, built_types_have_meaning, built_variables_have_meaning,
+    invariants_that_are_asked_for_are_there, others_are_undefined,
 };

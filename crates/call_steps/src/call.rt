@@ -3,26 +3,29 @@
 ghost use Rattle.std.specs.Prelude.{◌≡◌, ◌≤◌, IfOk, option_map};
 ghost use Rattle.std.specs.Borrow.{Bor};
 ghost use Rattle.abstract_syntax.specs.Classes.{SpecTree};
-ghost use Rattle.node_meaning.specs.Calls.{called as called_plan, activated as activated_plan, begun as begun_plan, ended as ended_plan, finished as finished_plan, tested as tested_result, unless_wrong};
+ghost use Rattle.vdm_values.specs.declared.slot.Slot.TheVariants.{Unset, Held};
+ghost use Rattle.node_meaning.specs.Calls.{called as called_plan, activated as activated_plan, begun as begun_plan, ended as ended_plan, left_with as left_plan, finished_with as finished_plan};
 ghost use Rattle.node_meaning.specs.Envs.{Locals, inside as inside_of};
-ghost use Rattle.type_tree.specs.TypeView.{type_view};
+ghost use Rattle.node_meaning.specs.Tasks.{with_value};
+ghost use Rattle.plans.specs.Plans.{bind};
 ghost use Rattle.vdm_tree.specs.ClassView.{operation_view};
 ghost use Rattle.vdm_tree.specs.declared.class_def.OpDef.{OpDef};
 ghost use Rattle.spec_table.specs.Tables.{table_spec};
 ghost use Rattle.eval_data.specs.Parts.{here_of, flow_of};
+ghost use Rattle.fit_steps.specs.Tests.{tested_code};
 ghost use Rattle.step_data.specs.Parts.{call_operation};
-ghost use Rattle.step_data.specs.Actions.{action_code, busy, height};
+ghost use Rattle.step_data.specs.Actions.{action_code, of_thread, busy, height};
 
-use eval_data::{Flow, Here};
-use fit_steps::type_fault;
+use eval_data::{Flow, Here, Nest};
+use fit_steps::{Tested, fitted};
 use run_journal::Answer;
 use spec_table::ClassTable;
 use std::alloc::Global;
 use std::mem;
 use step_data::{Action, Asking, Call, Task, Waiting};
 use vdm_kinds::{Name, OpRef, OutOfMemory, Place, RunFault};
-use vdm_tree::{Body, OpDef, TypeExpr};
-use vdm_values::Slot;
+use vdm_tree::{Body, OpDef};
+use vdm_values::{Slot, Value};
 
 /// A call is asked for. What is no operation of its class is a type fault at the call.
 pub fn called<'t>(
@@ -88,7 +91,7 @@ fn inside<'t>(me: u32, own: Name, class: Name) -> Here<'t>
         own: Some(own),
         me: Some(me),
         held: None,
-        depth: 0,
+        nest: Nest::none(),
     }
 }
 
@@ -96,7 +99,7 @@ fn inside<'t>(me: u32, own: Name, class: Name) -> Here<'t>
 /// caller's again.
 pub fn ended<'t>(
     alloc: Global,
-    table: &ClassTable,
+    table: &'t ClassTable,
     locals: &mut Vec<(Name, Slot)>,
     call: Call<'t>,
     saved: Vec<(Name, Slot)>,
@@ -108,8 +111,8 @@ pub fn ended<'t>(
     *locals = saved;
     match flow {
         Flow::Gave(_slot) => Ok(Action::Fail(RunFault::Undefined, call.place)),
-        Flow::Next => left_with(alloc, table, call, Slot::Unset),
-        Flow::Returned(slot) => left_with(alloc, table, call, slot),
+        Flow::Next => left_with(alloc, table, locals, call, Slot::Unset),
+        Flow::Returned(slot) => left_with(alloc, table, locals, call, slot),
         Flow::Exited(value, from) => {
             let exited = Flow::Exited(value, from);
             Ok(Action::Ask(Asking::Finish(call.me, call.op, exited)))
@@ -117,49 +120,74 @@ pub fn ended<'t>(
     }
 }
 
-/// What follows a body that left this: it is tested.
+/// What follows a body that left this. A result that is due has to come, and has to fit; else none may come.
 fn left_with<'t>(
     alloc: Global,
-    table: &ClassTable,
+    table: &'t ClassTable,
+    locals: &mut Vec<(Name, Slot)>,
     call: Call<'t>,
     slot: Slot,
 ) -> Result<Action<'t>, OutOfMemory>
     ensures falls { IfOk result (λ a. height a ≤ 2) }
-    ensures same { IfOk result (λ a. (locals : Locals) → action_code (table_spec table.now) locals a ≡ finished_plan call.entry.me call.entry.op call.entry.place locals (tested_result (table_spec table.now) call.entry.op.class (call_operation call.entry).result_type slot)) }
+    ensures same { IfOk result (λ a. action_code (table_spec table.now) locals.new.items a ≡ left_plan (table_spec table.now) call.entry.me call.entry.op (call_operation call.entry).result_type call.entry.place slot locals.old.items) }
 {
-    let declared = &call.operation.result_type;
-    let fault = result_fault(alloc, table, call.op.class, declared, &slot)?;
-    Ok(finished(call, fault, slot))
-}
-
-/// A fault of the result stands at the call; else the call asks to finish.
-fn finished<'t>(call: Call<'t>, fault: Option<RunFault>, slot: Slot) -> Action<'t>
-    ensures falls { height result ≤ 2 }
-    ensures same { (spec : SpecTree) (locals : Locals) → action_code spec locals result ≡ finished_plan call.entry.me call.entry.op call.entry.place locals (unless_wrong fault slot) }
-{
-    match fault {
-        None => Action::Ask(Asking::Finish(call.me, call.op, Flow::Gave(slot))),
-        Some(fault) => Action::Fail(fault, call.place),
+    match slot {
+        Slot::Held(value) => left_with_value(alloc, table, locals, call, value),
+        Slot::Unset => Ok(left_without(call)),
     }
 }
 
-/// The fault of a result against the declared type: a result that is due has to come, and has to fit; else none may come.
-fn result_fault(
-    alloc: Global,
-    table: &ClassTable,
-    class: Name,
-    declared: &Option<TypeExpr>,
-    slot: &Slot,
-) -> Result<Option<RunFault>, OutOfMemory>
-    ensures { IfOk result (λ fault. unless_wrong fault slot.now ≡ tested_result (table_spec table.now) class (option_map type_view declared.now) slot.now) }
+/// What follows a body that left no value: the call asks to finish, unless a result is due.
+fn left_without<'t>(call: Call<'t>) -> Action<'t>
+    ensures falls { height result ≤ 2 }
+    ensures same { (spec : SpecTree) (locals : Locals) → action_code spec locals result ≡ left_plan spec call.entry.me call.entry.op (call_operation call.entry).result_type call.entry.place Unset locals }
 {
-    match (declared, slot) {
-        (None, Slot::Unset) => Ok(None),
-        (None, Slot::Held(_)) => Ok(Some(RunFault::TypeFault)),
-        (Some(_), Slot::Unset) => Ok(Some(RunFault::NoReturn)),
-        (Some(declared), Slot::Held(value)) => {
-            let fault = type_fault(alloc, table, Some(class), declared, value)?;
-            Ok(fault)
+    match &call.operation.result_type {
+        None => Action::Ask(Asking::Finish(call.me, call.op, Flow::Gave(Slot::Unset))),
+        Some(_) => Action::Fail(RunFault::NoReturn, call.place),
+    }
+}
+
+/// What follows a body that left a value: it is tested. No body of an operation stands inside a test of a type.
+fn left_with_value<'t>(
+    alloc: Global,
+    table: &'t ClassTable,
+    locals: &mut Vec<(Name, Slot)>,
+    call: Call<'t>,
+    value: Value,
+) -> Result<Action<'t>, OutOfMemory>
+    ensures falls { IfOk result (λ a. height a ≤ 2) }
+    ensures same { IfOk result (λ a. action_code (table_spec table.now) locals.new.items a ≡ left_plan (table_spec table.now) call.entry.me call.entry.op (call_operation call.entry).result_type call.entry.place (Held value) locals.old.items) }
+{
+    let Some(declared) = &call.operation.result_type else {
+        return Ok(Action::Fail(RunFault::TypeFault, call.place));
+    };
+    let class = Some(call.op.class);
+    let place = call.place;
+    let nest = Nest::none();
+    let tested = fitted(alloc, table, locals, nest, class, declared, place, value)?;
+    Ok(tested_result(call, tested))
+}
+
+/// Where the result fits, the call asks to finish. A fault stands at the call.
+fn tested_result<'t>(call: Call<'t>, tested: Tested<'t>) -> Action<'t>
+    ensures falls { height result ≤ 2 }
+    ensures same { (spec : SpecTree) (locals : Locals) → action_code spec locals result ≡ bind (tested_code (of_thread spec) call.entry.place locals tested.entry) (with_value call.entry.place (finished_plan call.entry.me call.entry.op)) }
+{
+    match tested {
+        Tested::Gives(value) => finished_with(call.me, call.op, value),
+        Tested::Fails(fault) => Action::Fail(fault, call.place),
+        Tested::Asks(here, tree, inner) => {
+            let outer = Waiting::Leave(call.me, call.op, call.place);
+            Action::Test(here, tree, inner, outer)
         }
     }
+}
+
+/// The call asks to finish, with its result.
+pub fn finished_with<'t>(me: u32, op: OpRef, value: Value) -> Action<'t>
+    ensures falls { height result ≤ 2 }
+    ensures same { (spec : SpecTree) (locals : Locals) → action_code spec locals result ≡ finished_plan me op value locals }
+{
+    Action::Ask(Asking::Finish(me, op, Flow::Gave(Slot::Held(value))))
 }

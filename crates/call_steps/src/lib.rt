@@ -4,3 +4,4 @@
 pub mod call;
 pub mod need;
 pub mod object;
+pub mod testing;

@@ -10,22 +10,21 @@ ghost use Rattle.expr_tree.specs.View.{boxed_view};
 ghost use Rattle.expr_tree.specs.declared.expr.Expr.{Expr as ExprOf};
 ghost use Rattle.node_meaning.specs.Objects.{initial_of as initial_in, created as created_plan, make_object as make_object_plan};
 ghost use Rattle.node_meaning.specs.Tasks.{creates};
-ghost use Rattle.node_meaning.specs.Fitting.{unless_fault, slot_fault as slot_fault_of, slots_fault as slots_fault_of};
 ghost use Rattle.node_meaning.specs.Names.{variable_definition};
 ghost use Rattle.spec_table.specs.Tables.{table_spec};
 ghost use Rattle.eval_data.specs.Parts.{here_of, flow_of};
 ghost use Rattle.step_data.specs.Actions.{action_code, busy, height, initialisers, initial_of as initial_plan};
 
-use eval_data::{Flow, Here};
-use fit_steps::type_fault;
+use crate::testing::test_slots;
+use eval_data::{Flow, Here, Nest};
 use run_journal::Answer;
 use spec_table::ClassTable;
 use std::alloc::Global;
 use std::mem;
-use step_data::{Action, Asking, Making, Task, Waiting};
+use step_data::{Action, Making, Task, Waiting};
 use vdm_kinds::{Name, OutOfMemory, Place, RunFault, VarRef};
 use vdm_tree::Expr;
-use vdm_values::{Node, Slot, SlotList, Value, ValueList};
+use vdm_values::{Node, Slot, Value, ValueList};
 
 /// A new object. So far no class has a constructor.
 pub fn new_object<'t>(
@@ -120,7 +119,7 @@ fn initialising<'t>(class: Name) -> Here<'t>
         own: None,
         me: None,
         held: None,
-        depth: 0,
+        nest: Nest::none(),
     }
 }
 
@@ -152,78 +151,20 @@ pub fn initialised<'t>(
     }
 }
 
-/// Once all initialisers are evaluated their types are tested, and then the object is asked for.
+/// Once all initialisers are evaluated their types are tested, among the locals of the node again, and then the object is asked for.
 fn make_object<'t>(
     alloc: Global,
-    table: &ClassTable,
+    table: &'t ClassTable,
     locals: &mut Vec<(Name, Slot)>,
     making: Making<'t>,
 ) -> Result<Action<'t>, OutOfMemory>
     ensures same { IfOk result (λ a. action_code (table_spec table.now) locals.new.items a ≡ make_object_plan (table_spec table.now) making.entry.class making.entry.place making.entry.saved.items making.entry.variables.now making.entry.slots.items) }
-    ensures busy { IfOk result (λ a. busy a ≤ 0) }
+    ensures busy { IfOk result (λ a. busy a ≤ 1) }
     ensures falls { IfOk result (λ a. height a ≤ 2) }
 {
-    let fault = slots_fault(alloc, table, making.variables, making.slots.as_slice())?;
-    Ok(asked_for(locals, making, fault))
-}
-
-/// A fault of the slots stands where the object is made; else the object is asked for.
-fn asked_for<'t>(
-    locals: &mut Vec<(Name, Slot)>,
-    making: Making<'t>,
-    fault: Option<RunFault>,
-) -> Action<'t>
-    ensures same { (spec : SpecTree) → action_code spec locals.new.items result ≡ unless_fault making.entry.place fault (action_code spec making.entry.saved.items (Action.Ask (Asking.New making.entry.class making.entry.slots.items making.entry.place))) }
-    ensures busy { busy result ≤ 0 }
-    ensures falls { height result ≤ 2 }
-{
-    if let Some(fault) = fault {
-        return Action::Fail(fault, making.place);
-    }
-    *locals = making.saved;
-    let slots = SlotList::from_vec(making.slots);
-    Action::Ask(Asking::New(making.class, slots, making.place))
-}
-
-/// The fault of the first slot that does not fit the type of its variable.
-fn slots_fault(
-    alloc: Global,
-    table: &ClassTable,
-    variables: &[VarRef],
-    slots: &[Slot],
-) -> Result<Option<RunFault>, OutOfMemory>
-    ensures { IfOk result (λ found. found ≡ slots_fault_of (table_spec table.now) variables.now slots.now) }
-{
-    let mut rest = slots;
-    for variable in variables {
-        let [slot, after @ ..] = rest else {
-            return Ok(None);
-        };
-        if let Some(fault) = slot_fault(alloc, table, *variable, slot)? {
-            return Ok(Some(fault));
-        }
-        rest = after;
-    }
-    Ok(None)
-}
-
-/// The fault of what the slot of a variable holds, where it holds anything.
-fn slot_fault(
-    alloc: Global,
-    table: &ClassTable,
-    variable: VarRef,
-    slot: &Slot,
-) -> Result<Option<RunFault>, OutOfMemory>
-    ensures { IfOk result (λ found. found ≡ slot_fault_of (table_spec table.now) variable.class (variable_definition (table_spec table.now) variable) slot.now) }
-{
-    match (table.variable(&variable), slot) {
-        (Some(definition), Slot::Held(value)) => {
-            let class = Some(variable.class);
-            let fault = type_fault(alloc, table, class, &definition.declared, value)?;
-            Ok(fault)
-        }
-        _ => Ok(None),
-    }
+    let mut making = making;
+    *locals = mem::replace(&mut making.saved, Vec::new(alloc));
+    test_slots(alloc, table, locals, Box::new(alloc, making)?, 0)
 }
 
 /// The object that was made.

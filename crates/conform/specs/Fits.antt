@@ -47,6 +47,11 @@ abbrev pub said : Bool → Fitting
 said true = fits
 said false = wrong_invariant
 
+-- ... as a decision
+abbrev pub says : Decision Bool → Decision Fitting
+says (decided b) = decided (said b)
+says (asks d v met unmet) = asks d v (says met) (says unmet)
+
 abbrev pub then_said : Result Bool RunFault → Result Fitting RunFault
 then_said (Ok b) = Ok (said b)
 then_said (Err kind) = Err kind

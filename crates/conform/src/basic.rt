@@ -8,7 +8,7 @@ use vdm_kinds::BasicType;
 use vdm_values::{Node, Value};
 
 /// Whether the type of a word takes the value.
-pub(crate) fn is_of_basic(basic: BasicType, value: &Value) -> bool
+pub fn is_of_basic(basic: BasicType, value: &Value) -> bool
     ensures { result ≡ is_of_basic basic value.now }
 {
     match basic {

@@ -1,6 +1,6 @@
 // A test of a shape that is going on.
 
-ghost use Rattle.std.specs.Prelude.{◌≡◌, Some, None, IfOk, map};
+ghost use Rattle.std.specs.Prelude.{◌≡◌, [], Some, None, IfOk, map};
 ghost use Rattle.type_tree.specs.TypeView.{type_view, type_views, type_trees};
 ghost use Rattle.expr_tree.specs.TypeDefView.{field_view, type_def_view};
 ghost use Rattle.type_meaning.specs.Tests.{both, one_of};
@@ -24,6 +24,17 @@ pub(crate) struct Collecting<'v, 't> {
 }
 
 impl<'v, 't> Collecting<'v, 't> {
+    /// Nothing was found so far, and nothing is left.
+    pub(crate) fn new(alloc: Global) -> Collecting<'v, 't>
+        ensures found { result.found.items ≡ [] }
+        ensures frames { result.frames.items ≡ [] }
+    {
+        Collecting {
+            found: Vec::new(alloc),
+            frames: Vec::new(alloc),
+        }
+    }
+
     /// Values against one type.
     pub(crate) fn values<N: TypeNames>(
         &mut self,

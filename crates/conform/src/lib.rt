@@ -16,7 +16,8 @@ mod shapes;
 mod test;
 mod testing;
 
+pub use basic::is_of_basic;
 pub use conforming::{Fit, InvRunner, conform};
-pub use shapes::tests_of;
+pub use shapes::{tests_of, tests_of_name};
 pub use test::Test;
 pub use testing::{Testing, Turn};

@@ -16,7 +16,7 @@ use Rattle.node_meaning.specs.Functions.{Applying as MeantApplying}
 use Rattle.node_meaning.specs.Records.{field_exprs}
 use Rattle.node_meaning.specs.Calls.{Wanted as MeantWanted, a_value, no_value}
 use Rattle.node_meaning.specs.Choosing.{Chooser as MeantChooser, collects, for_each, for_some, for_one, the_one, takes_first, Search as MeantSearch}
-use Rattle.node_meaning.specs.Envs.{Locals, Held as MeantHeld, Here as MeantHere}
+use Rattle.node_meaning.specs.Envs.{Locals, Nest as MeantNest, Held as MeantHeld, Here as MeantHere}
 use Rattle.node_meaning.specs.Matching.{exprs_of}
 use Rattle.node_meaning.specs.Strict.{Strict as MeantStrict, one_operand, two_operands, a_set, a_sequence, a_tuple, a_map, a_token, a_subsequence, a_component, maplet_exprs}
 use Rattle.node_meaning.specs.Tasks.{Flow as MeantFlow, gave, next, returned, exited, Need as MeantNeed, reads, calls, creates, prints, tells_time}
@@ -33,6 +33,7 @@ use Rattle.eval_data.specs.declared.here.Held.{Held}
 use Rattle.eval_data.specs.declared.here.Here.{Here}
 use Rattle.eval_data.specs.declared.need.Need.{Need}
 use Rattle.eval_data.specs.declared.need.Need.TheVariants.{Read, Call, New, Print, Time}
+use Rattle.eval_data.specs.declared.nest.Nest.{Nest}
 use Rattle.eval_data.specs.declared.parts.Parts.{Parts}
 use Rattle.eval_data.specs.declared.parts.Parts.TheVariants.{None as NoParts, One, Two, Three, Items, Maplets, MapletValue, Changes, Brackets}
 use Rattle.eval_data.specs.declared.search.Search.{Search}
@@ -52,13 +53,16 @@ wanted_of Nothing = no_value
 abbrev pub held_of : Held → MeantHeld
 held_of held = record { variables = held.variables.items; counters = [] }
 
+abbrev pub nest_of : Nest → MeantNest
+nest_of nest = record { depth = nest.depth; test = nest.test }
+
 abbrev pub here_of : Here → MeantHere
 here_of here = record {
   scope = here.scope;
   own = here.own;
   me = here.me;
   held = option_map (λ (h : Bor Held). held_of h.now) here.held;
-  depth = here.depth;
+  nest = nest_of here.nest;
 }
 
 abbrev pub flow_of : Flow → Locals → MeantFlow
@@ -147,7 +151,7 @@ applying_of a = record {
   class = a.class;
   function = function_view a.function.now;
   place = a.place;
-  depth = a.depth;
+  nest = nest_of a.nest;
   outer = a.outer.items;
 }
 

@@ -1,42 +1,56 @@
 -- What frames and steps mean: the plan of each.
-use Rattle.std.specs.Prelude.{ℕ, ◌+◌, List, [], ◌∷◌, map, drop, slice_get, Option, Some, None, Bool}
+use Rattle.std.specs.Prelude.{ℕ, ◌+◌, List, [], ◌∷◌, map, drop, slice_get, Option, Some, None, Bool, true, false}
 use Rattle.class_meaning.specs.Classes.{nowhere}
 use Rattle.vdm_kinds.specs.declared.place.Place.{Place}
-use Rattle.abstract_syntax.specs.Classes.{SpecTree}
+use Rattle.abstract_syntax.specs.Classes.{InvariantTree, SpecTree}
 use Rattle.abstract_syntax.specs.Expressions.{ExprTree, undefined, PatternTree, no_exprs, one_expr}
 use Rattle.abstract_syntax.specs.Values.{ValueTree}
 use Rattle.expr_tree.specs.View.{view_of, boxed_view, maybe_view, expr_trees, views_of, pattern_view, pattern_views, pattern_trees, branch_view, branch_trees, case_view, case_trees, defined_view, defined_trees, field_value_view, field_value_trees}
-use Rattle.plans.specs.Plans.{finish, become, part}
+use Rattle.plans.specs.Plans.{finish, become, part, bind}
+use Rattle.type_meaning.specs.Tests.{Fitting, Decision}
+use Rattle.member_meaning.specs.TypeRanks.{finder, type_rank}
+use Rattle.conform.specs.Fits.{says}
+use Rattle.conform.specs.Testings.{met_behind, unmet_behind}
+use Rattle.type_tree.specs.TypeView.{type_views}
+use Rattle.expr_tree.specs.TypeDefView.{field_view, invariant_view}
+use Rattle.vdm_tree.specs.ClassView.{function_view}
+use Rattle.vdm_kinds.specs.declared.run_fault.RunFault.TheVariants.{NoMatch}
 use Rattle.node_meaning.specs.Calls.{given}
 use Rattle.node_meaning.specs.Choosing.{by_truth, next_choice, choose, with_elements, sets_of, behind_sets, search_with}
 use Rattle.node_meaning.specs.Envs.{Locals, Here as MeantHere, outside, at}
-use Rattle.node_meaning.specs.Fitting.{typed_maybe}
-use Rattle.node_meaning.specs.Functions.{applied, bound, pre_decided, post_decided, result_given, value_given}
-use Rattle.node_meaning.specs.Records.{field_names, record_changed, record_made}
+use Rattle.node_meaning.specs.Fitting.{descends, typed_maybe, fit_then, if_fits, as_answer, by_holding, arguments_typed}
+use Rattle.node_meaning.specs.Functions.{applied, begun, bound, pre_decided, post_decided, post_of, result_given, value_given}
+use Rattle.node_meaning.specs.Records.{field_names, fields_typed, record_changed, record_made, record_value}
 use Rattle.node_meaning.specs.Expressions.{called_through, no_such_call, selected, fit_value, right_truth, truth, branch, branches, within, no_match, defined, patterns_met, cases_met}
-use Rattle.node_meaning.specs.Matching.{on_truth, met, meets}
+use Rattle.node_meaning.specs.Matching.{decided as condition, on_truth, met, meets}
 use Rattle.node_meaning.specs.Needs.{Setting, asked}
 use Rattle.node_meaning.specs.Strict.{one_operand, two_operands, with_others, make}
-use Rattle.node_meaning.specs.Tasks.{expr_in, Flow as MeantFlow, Code, fault, value, with_value, cut_to}
+use Rattle.node_meaning.specs.Tasks.{expr_in, Flow as MeantFlow, Code, fault, placed, value, with_value, cut_to}
+use Rattle.eval_data.specs.declared.asking.Asking.{Asking}
+use Rattle.eval_data.specs.declared.asking.Verdict.{Verdict}
+use Rattle.eval_data.specs.declared.asking.Verdict.TheVariants.{Passes, Answers}
 use Rattle.eval_data.specs.declared.collecting.Collecting.{Collecting}
 use Rattle.eval_data.specs.declared.collecting.Then.{Then}
-use Rattle.eval_data.specs.declared.collecting.Then.TheVariants.{Make, Meets, Searches, NextChoice, Applies, Binds, Record, Changes, NoSuchCall}
+use Rattle.eval_data.specs.declared.collecting.Then.TheVariants.{Make, Meets, Searches, NextChoice, Applies, Binds, Record, Changes, NoSuchCall, Invariant as MeetsInvariant}
+use Rattle.eval_data.specs.declared.fitting.Filling.{Filling}
+use Rattle.eval_data.specs.declared.fitting.Passing.{Passing}
 use Rattle.eval_data.specs.declared.frame.After.{After as AfterNeed}
 use Rattle.eval_data.specs.declared.frame.After.TheVariants.{Value as ValueOf, Given}
 use Rattle.eval_data.specs.declared.frame.Frame.{Frame}
 use Rattle.eval_data.specs.declared.frame.Frame.TheVariants.{With, After, Cut}
+use Rattle.eval_data.specs.declared.frame.Level.{Level}
 use Rattle.eval_data.specs.declared.frame.TruthUse.{TruthUse}
-use Rattle.eval_data.specs.declared.frame.TruthUse.TheVariants.{Branch, Left, Right, Choice, Pre, Post}
+use Rattle.eval_data.specs.declared.frame.TruthUse.TheVariants.{Branch, Left, Right, Choice, Pre, Post, Invariant}
 use Rattle.eval_data.specs.declared.frame.Use.{Use}
-use Rattle.eval_data.specs.declared.frame.Use.TheVariants.{Operand, RightOperand, Operator, Collect, Truth, CallThrough, Select, Asked, Defined, Result, ClassValue, Subject, Elements}
+use Rattle.eval_data.specs.declared.frame.Use.TheVariants.{Operand, RightOperand, Operator, Collect, Truth, CallThrough, Select, Asked, Defined, Result, ClassValue, Subject, Elements, ArgumentFits, ResultFits, DefinitionFits, FieldFits}
 use Rattle.eval_data.specs.declared.matching.Met.{Met}
 use Rattle.eval_data.specs.declared.matching.Met.TheVariants.{Definition, Case}
 use Rattle.eval_data.specs.declared.matching.MetCase.{MetCase}
 use Rattle.eval_data.specs.declared.search.Search.{Search}
 use Rattle.eval_data.specs.declared.search.Sets.{Sets}
 use Rattle.eval_data.specs.declared.step.Step.{Step}
-use Rattle.eval_data.specs.declared.step.Step.TheVariants.{Finish, Fail, Part, Become, Need}
-use Rattle.eval_data.specs.Parts.{wanted_of, here_of, flow_of, need_of, strict_of, parts_of, chooser_of, patterns_at, search_of, first_choice, sources_from, applying_of, maybe_type, asked_type}
+use Rattle.eval_data.specs.declared.step.Step.TheVariants.{Finish, Fail, Part, Become, Test, Need}
+use Rattle.eval_data.specs.Parts.{wanted_of, nest_of, here_of, flow_of, need_of, strict_of, parts_of, chooser_of, patterns_at, search_of, first_choice, sources_from, applying_of, maybe_type, asked_type}
 
 -- ---- patterns
 
@@ -95,6 +109,41 @@ source_in (Some source) = source
 abbrev pub source_at : Sets → ExprTree × ℕ
 source_at sets = source_in (slice_get (sources_from sets.sources.items 0) sets.at)
 
+-- ---- tests of values
+
+-- what is done once it is decided how the value fits
+abbrev pub verdict_of : Verdict → Place → Locals → Fitting → Code
+verdict_of (Passes v) place outer = if_fits place v outer
+verdict_of Answers place outer = as_answer outer
+
+-- what is done where it is decided whether all that has to hold does, or goes on to be asked
+abbrev pub judged : SpecTree → Asking → Decision Bool → Code
+judged spec a decision = fit_then spec (nest_of a.nest) a.place (verdict_of a.verdict a.place a.outer.items) (says decision)
+
+-- the test behind the invariant that is being evaluated, where that holds or does not
+abbrev pub told : SpecTree → Asking → Bool → Locals → Code
+told spec a =
+    by_holding (judged spec a (met_behind (finder spec) (descends spec) (type_rank spec) a.testing.waiting.items))
+    (judged spec a (unmet_behind (finder spec) (descends spec) (type_rank spec) a.testing.waiting.items))
+
+-- an invariant whose pattern meets a value, behind the values of the expressions in brackets in it
+abbrev pub invariant_met : SpecTree → Asking → InvariantTree → MeantHere → Place → ValueTree → List ValueTree → Locals → Code
+invariant_met spec a invariant here place v =
+    met spec here.scope place (invariant.pattern ∷ []) (v ∷ [])
+    (λ inner. condition here inner invariant.condition place (told spec a)) (λ inner. fault NoMatch place)
+
+-- the arguments that are left are tested, and then the function begins
+abbrev pub arguments_left : SpecTree → Passing → Locals → Code
+arguments_left spec p =
+    arguments_typed spec (nest_of p.nest) (Some p.op.class) (type_views p.types.now) (expr_trees (views_of p.arguments.now)) (drop p.tested p.values)
+    (begun spec p.op.class (function_view p.function.now) p.place (nest_of p.nest) p.values)
+
+-- the values of the fields that are left are tested, and then the record is made
+abbrev pub fields_left : SpecTree → Filling → Place → Locals → Code
+fields_left spec f place =
+    fields_typed spec (nest_of f.nest) f.class place (map field_view f.fields.now) (drop f.tested f.values.items)
+    (record_value f.class f.name place f.values.items)
+
 -- ---- what is done with values
 
 abbrev pub then_of : SpecTree → Then → MeantHere → Place → List ValueTree → Locals → Code
@@ -102,11 +151,12 @@ then_of spec (Make what) here place = make (strict_of what) place
 then_of spec (Meets v m) here place = met_with spec m place v
 then_of spec (Searches lists patterns chooser) here place = search_with spec here place (patterns_at patterns.items) (chooser_of chooser) lists.items
 then_of spec (NextChoice search) here place = next_choice (search_of search.value) (choose_behind spec search.value 0)
-then_of spec (Applies ref arguments) here place = applied spec ref place here.depth (expr_trees (views_of arguments.now))
+then_of spec (Applies ref arguments) here place = applied spec ref place here.nest (expr_trees (views_of arguments.now))
 then_of spec (Binds a vs) here place = bound spec (applying_of a.value) vs
-then_of spec (Record t) here place = record_made spec here.scope t place
-then_of spec (Changes changes) here place = record_changed spec (field_names (field_value_trees (map field_value_view changes.now))) place
+then_of spec (Record t) here place = record_made spec here.nest here.scope t place
+then_of spec (Changes changes) here place = record_changed spec here.nest (field_names (field_value_trees (map field_value_view changes.now))) place
 then_of spec NoSuchCall here place = no_such_call place
+then_of spec (MeetsInvariant a invariant v) here place = invariant_met spec a.value (invariant_view invariant.now) here place v
 
 -- a value behind those that came
 abbrev pub collect : SpecTree → Collecting → ValueTree → Locals → Code
@@ -121,6 +171,7 @@ truth_use spec (Choice search) place =
     by_truth (search_of search.value) (first_choice search.value) search.value.done.items (choose_behind spec search.value 1)
 truth_use spec (Pre a) place = pre_decided spec (applying_of a.value)
 truth_use spec (Post a v) place = post_decided (applying_of a.value) v
+truth_use spec (Invariant a) place = told spec a.value
 
 abbrev pub use_of : Setting → Use → Place → ValueTree → Locals → Code
 use_of setting (Operand operator) place = with_others outside place no_exprs [] (make (one_operand operator) place)
@@ -132,15 +183,19 @@ use_of setting (Truth truth_for) place = on_truth place (truth_use setting.spec 
 use_of setting (CallThrough here name arguments dot wanted) place =
     called_through setting (here_of here) name (expr_trees (views_of arguments.now)) dot place (wanted_of wanted)
 use_of setting (Select name) place = selected setting place name
-use_of setting (Asked scope t) place = fit_value setting.spec scope (asked_type place t) place
+use_of setting (Asked nest scope t) place = fit_value setting.spec (nest_of nest) scope (asked_type place t) place
 use_of setting (Defined here declared d) place =
-    typed_maybe setting.spec (here_of here).scope (maybe_type declared) place (meets_with setting.spec (Definition here d) place)
+    typed_maybe setting.spec (here_of here).nest (here_of here).scope (maybe_type declared) place (meets_with setting.spec (Definition here d) place)
 use_of setting (Result a) place = result_given setting.spec (applying_of a.value)
-use_of setting (ClassValue n) place = value_given setting.spec n.value.class (maybe_type n.value.declared) place n.value.outer.items
+use_of setting (ClassValue n) place = value_given setting.spec n.value.class (maybe_type n.value.declared) place (nest_of n.value.nest) n.value.outer.items
 use_of setting (Subject here cases others count) place =
     cases_met setting.spec (here_of here) place (case_trees (map case_view cases.now)) (maybe_view others.now) count
 use_of setting (Elements sets) place =
     with_elements (source_at sets.value).0 (source_at sets.value).1 sets.value.lists.items (sets_behind setting.spec sets.value)
+use_of setting (ArgumentFits p) place = λ v. arguments_left setting.spec p.value
+use_of setting (ResultFits a) place = post_of (applying_of a.value) (applying_of a.value).function.post
+use_of setting (DefinitionFits here d) place = meets_with setting.spec (Definition here d) place
+use_of setting (FieldFits f) place = λ v. fields_left setting.spec f.value place
 
 -- ---- frames and steps
 
@@ -153,9 +208,15 @@ frame_then setting (With used place) = with_value place (use_of setting used pla
 frame_then setting (After after place) = after_need after place
 frame_then setting (Cut count) = cut_to count
 
+-- ... with its faults where they stand
+abbrev pub level_then : Setting → Level → MeantFlow → Code
+level_then setting level flow = placed (nest_of level.nest) (frame_then setting level.frame flow)
+
 abbrev pub code_of : Setting → Locals → Step → Code
 code_of setting locals (Finish flow) = finish (flow_of flow locals)
 code_of setting locals (Fail kind place) = fault kind place
 code_of setting locals (Part here tree frame) = part (expr_in (at (here_of here) locals) (view_of tree.now)) (frame_then setting frame)
+code_of setting locals (Test here tree inner outer) =
+    bind (part (expr_in (at (here_of here) locals) (view_of tree.now)) (frame_then setting inner)) (frame_then setting outer)
 code_of setting locals (Become here tree) = become (expr_in (at (here_of here) locals) (view_of tree.now))
 code_of setting locals (Need need place after) = asked setting (need_of need) place locals (after_need after place)

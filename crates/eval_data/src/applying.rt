@@ -1,5 +1,6 @@
 // Functions that are being applied, and class values that are being evaluated.
 
+use crate::nest::Nest;
 use type_tree::TypeExpr;
 use vdm_kinds::{Name, Place};
 use vdm_tree::FunctionDef;
@@ -13,8 +14,8 @@ pub struct Applying<'t> {
     pub function: &'t FunctionDef,
     /// The place of the application.
     pub place: Place,
-    /// How many invariants of types are being tested round it.
-    pub depth: u32,
+    /// The tests of types round it.
+    pub nest: Nest,
     /// The locals of the node that applies it, which the function does not see.
     pub outer: Vec<(Name, Slot)>,
 }
@@ -26,6 +27,8 @@ pub struct Naming<'t> {
     pub class: Name,
     /// Its type, where one is given.
     pub declared: Option<&'t TypeExpr>,
+    /// The tests of types round the node that names it.
+    pub nest: Nest,
     /// The locals of the node that names it, which it does not see.
     pub outer: Vec<(Name, Slot)>,
 }

@@ -1,13 +1,14 @@
 // Values that come one after another, and what is done with all of them.
 
 use crate::applying::Applying;
+use crate::asking::Asking;
 use crate::chooser::Chooser;
 use crate::here::Here;
 use crate::matching::Met;
 use crate::parts::Parts;
 use crate::search::Search;
 use crate::strict::Strict;
-use expr_tree::{Expr, FieldValue, Pattern};
+use expr_tree::{Expr, FieldValue, Pattern, TypeInvariant};
 use vdm_kinds::{OpRef, Place, TypeName};
 use vdm_values::{Value, ValueList};
 
@@ -32,6 +33,8 @@ pub enum Then<'t> {
     Changes(&'t [FieldValue]),
     /// They are the arguments of a call that there is not.
     NoSuchCall,
+    /// They stand in brackets in the pattern of an invariant that meets a value.
+    Invariant(Box<Asking<'t>>, &'t TypeInvariant, Value),
 }
 
 /// Values that came, expressions of which further ones come, and what is done with all of them.

@@ -2,9 +2,12 @@
 
 use crate::applying::{Applying, Naming};
 use crate::asked_type::AskedType;
+use crate::asking::Asking;
 use crate::collecting::Collecting;
+use crate::fitting::{Filling, Passing};
 use crate::here::Here;
 use crate::matching::MetDefinition;
+use crate::nest::Nest;
 use crate::search::{Search, Sets};
 use crate::wanted::Wanted;
 use expr_tree::{Branch, Case, Expr};
@@ -27,6 +30,8 @@ pub enum TruthUse<'t> {
     Pre(Box<Applying<'t>>),
     /// It is what `post` says of the result of a function.
     Post(Box<Applying<'t>>, Value),
+    /// It says whether an invariant holds.
+    Invariant(Box<Asking<'t>>),
 }
 
 /// What is done with a value.
@@ -48,7 +53,7 @@ pub enum Use<'t> {
     /// It is the value whose member of this name is selected.
     Select(Name),
     /// It is asked whether it fits a type, from a class or from none.
-    Asked(Option<Name>, AskedType<'t>),
+    Asked(Nest, Option<Name>, AskedType<'t>),
     /// It is what a definition gives, with a type where one is given.
     Defined(Here<'t>, Option<&'t TypeExpr>, MetDefinition<'t>),
     /// It is the result of a function.
@@ -59,6 +64,14 @@ pub enum Use<'t> {
     Subject(Here<'t>, &'t [Case], &'t Option<Box<Expr>>, usize),
     /// It has to be the set of a bind.
     Elements(Box<Sets<'t>>),
+    /// It is an argument that fits the type of its parameter: the others are tested, and then the function begins.
+    ArgumentFits(Box<Passing<'t>>),
+    /// It is a result that fits the type of the function.
+    ResultFits(Box<Applying<'t>>),
+    /// It is what a definition gives, and fits its type.
+    DefinitionFits(Here<'t>, MetDefinition<'t>),
+    /// It fits the type of its field: the others are tested, and then the record is made.
+    FieldFits(Box<Filling<'t>>),
 }
 
 /// What is done with what comes of a need.
@@ -79,4 +92,11 @@ pub enum Frame<'t> {
     After(After, Place),
     /// The locals that were bound for it go.
     Cut(usize),
+}
+
+/// A frame, and the tests of types round the node that waits in it.
+#[derive(Drop)]
+pub struct Level<'t> {
+    pub nest: Nest,
+    pub frame: Frame<'t>,
 }

@@ -1,5 +1,6 @@
 // Where a node stands.
 
+use crate::nest::Nest;
 use vdm_kinds::{Name, VarRef};
 use vdm_values::Slot;
 
@@ -20,6 +21,6 @@ pub struct Here<'t> {
     pub me: Option<u32>,
     /// What is held, in a predicate or an instance invariant.
     pub held: Option<&'t Held>,
-    /// How many invariants of types are being tested round it.
-    pub depth: u32,
+    /// The tests of types round it.
+    pub nest: Nest,
 }

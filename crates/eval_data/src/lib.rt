@@ -3,28 +3,35 @@
 
 mod applying;
 mod asked_type;
+mod asking;
 mod chooser;
 mod collecting;
+mod fitting;
 mod flow;
 mod frame;
 mod here;
 mod matching;
 mod need;
+mod nest;
 mod parts;
 mod search;
 mod step;
 mod strict;
+mod waiting;
 mod wanted;
 
 pub use applying::{Applying, Naming};
 pub use asked_type::AskedType;
+pub use asking::{Asking, Verdict};
 pub use chooser::{Chooser, Elements};
 pub use collecting::{Collecting, Then};
+pub use fitting::{Filling, Passing};
 pub use flow::Flow;
-pub use frame::{After, Frame, TruthUse, Use};
+pub use frame::{After, Frame, Level, TruthUse, Use};
 pub use here::{Held, Here};
 pub use matching::{Met, MetCase, MetDefinition};
 pub use need::Need;
+pub use nest::Nest;
 pub use parts::Parts;
 pub use search::{Search, Sets, Source};
 pub use step::Step;

@@ -25,6 +25,8 @@ pub enum Step<'t> {
     Part(Here<'t>, &'t Expr, Frame<'t>),
     /// A part in the node's stead.
     Become(Here<'t>, &'t Expr),
+    /// A part of the test of a value, what is done with what comes of it, and what is done with what comes of the test.
+    Test(Here<'t>, &'t Expr, Frame<'t>, Frame<'t>),
     /// Something is needed for the node at the place; and what is done with what comes of it.
     Need(Need, Place, After),
 }

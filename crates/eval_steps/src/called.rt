@@ -48,7 +48,15 @@ pub(crate) fn called<'t>(
             )
         }
         Expr::MakeRecord(name, arguments, place) => {
-            make_record(alloc, table, here, *name, arguments.as_slice(), *place)
+            make_record(
+                alloc,
+                table,
+                locals,
+                here,
+                *name,
+                arguments.as_slice(),
+                *place,
+            )
         }
         Expr::New(class, _, arguments, place) => {
             Ok(created(alloc, *class, arguments.as_slice(), *place))

@@ -38,8 +38,8 @@ pub(crate) fn asked<'t>(
     wanted: AskedType<'t>,
     place: Place,
 ) -> Step<'t>
-    ensures { (setting : Setting) (locals : Locals) → code_of setting locals result ≡ evaluated (here_of here.entry) locals (boxed_view tested.now) place (fit_value setting.spec (here_of here.entry).scope (asked_type place wanted.entry) place) }
+    ensures { (setting : Setting) (locals : Locals) → code_of setting locals result ≡ evaluated (here_of here.entry) locals (boxed_view tested.now) place (fit_value setting.spec (here_of here.entry).nest (here_of here.entry).scope (asked_type place wanted.entry) place) }
 {
-    let used = Use::Asked(here.scope, wanted);
+    let used = Use::Asked(here.nest, here.scope, wanted);
     Step::Part(here, tested, Frame::With(used, place))
 }

@@ -9,11 +9,13 @@ ghost use Rattle.eval_steps.specs.Settings.{set};
 ghost use Rattle.value_steps.specs.Further.{gathered_code};
 
 use eval_data::{Collecting, Here, Step, Then, TruthUse, Use};
-use fit_steps::fit_answer;
-use function_steps::{applied, bound, post_decided, pre_decided, result_given, value_given};
-use match_steps::{definition_met, met_with, subject_met};
+use fit_steps::{behind_brackets, fit_answer, told};
+use function_steps::{
+    applied, argument_fits, bound, post_decided, post_of, pre_decided, result_given, value_given,
+};
+use match_steps::{definition_fits, definition_met, met_with, subject_met};
 use name_steps::called_through;
-use record_steps::{record_changed, record_made, selected};
+use record_steps::{field_fits, record_changed, record_made, selected};
 use search_steps::{choice_decided, elements, next_choice, searches};
 use spec_table::ClassTable;
 use std::alloc::Global;
@@ -49,7 +51,9 @@ pub(crate) fn use_of<'t>(
             behind(alloc, table, locals, gathered)
         }
         Use::Select(name) => selected(alloc, table, name, place, value),
-        Use::Asked(scope, wanted) => fit_answer(alloc, table, scope, wanted, place, &value),
+        Use::Asked(nest, scope, wanted) => {
+            fit_answer(alloc, table, locals, nest, scope, wanted, place, &value)
+        }
         Use::Defined(here, declared, met) => {
             definition_met(alloc, table, locals, here, declared, met, place, value)
         }
@@ -61,6 +65,12 @@ pub(crate) fn use_of<'t>(
             )
         }
         Use::Elements(sets) => elements(alloc, table, locals, sets, place, value),
+        Use::ArgumentFits(passing) => argument_fits(alloc, table, locals, passing),
+        Use::ResultFits(applying) => post_of(alloc, locals, applying, value),
+        Use::DefinitionFits(here, met) => {
+            definition_fits(alloc, table, locals, here, met, place, value)
+        }
+        Use::FieldFits(filling) => field_fits(alloc, table, locals, filling, place),
     }
 }
 
@@ -117,14 +127,21 @@ fn all_came<'t>(
         }
         Then::NextChoice(search) => next_choice(alloc, table, locals, search, values),
         Then::Applies(op, arguments) => applied(
-            alloc, table, locals, op, place, here.depth, arguments, values,
+            alloc, table, locals, op, place, here.nest, arguments, values,
         ),
         Then::Binds(applying, arguments) => {
             bound(alloc, table, locals, applying, arguments, values)
         }
-        Then::Record(name) => record_made(alloc, table, here.scope, name, place, values),
-        Then::Changes(changes) => record_changed(alloc, table, changes, place, values),
+        Then::Record(name) => record_made(
+            alloc, table, locals, here.nest, here.scope, name, place, values,
+        ),
+        Then::Changes(changes) => {
+            record_changed(alloc, table, locals, here.nest, changes, place, values)
+        }
         Then::NoSuchCall => Ok(Step::Fail(RunFault::TypeFault, place)),
+        Then::Invariant(asking, invariant, value) => behind_brackets(
+            alloc, table, locals, here, place, asking, invariant, value, values,
+        ),
     }
 }
 
@@ -144,5 +161,6 @@ fn decide<'t>(
         Decided::Chosen(search, b) => choice_decided(alloc, table, locals, search, b),
         Decided::Pre(applying, b) => Ok(pre_decided(applying, b)),
         Decided::Post(applying, result, b) => Ok(post_decided(locals, applying, result, b)),
+        Decided::Invariant(asking, b) => told(alloc, table, locals, asking, b),
     }
 }

@@ -1,5 +1,5 @@
 -- What turns say.
-use Rattle.std.proofs.Common.{◌≡◌, ◌≤◌, ◌<◌, ℕ, ◌+◌, ◌*◌, List, [], ◌∷◌, length, Result, Ok, Err, IfOk, refl, ap, sym, ◌∙◌, arith}
+use Rattle.std.proofs.Common.{◌≡◌, ◌≤◌, ◌<◌, ℕ, List, [], ◌∷◌, Result, Ok, Err, IfOk, refl, ap, ◌∙◌, arith}
 use Rattle.vdm_kinds.specs.declared.halt.Halt.{Halt}
 use Rattle.vdm_kinds.specs.declared.halt.OutOfMemory.{OutOfMemory}
 use Rattle.vdm_kinds.specs.declared.place.Place.{Place}
@@ -14,52 +14,52 @@ use Rattle.run_journal.specs.declared.answer.Answer.TheVariants.{Slot as Holds}
 use Rattle.plans.specs.Plans.{finish, fail, ask, part, become}
 use Rattle.node_meaning.specs.Envs.{Locals, Here, at}
 use Rattle.node_meaning.specs.Needs.{Setting, slot_then}
-use Rattle.node_meaning.specs.Tasks.{expr_in, gave, needed, Code}
+use Rattle.node_meaning.specs.Tasks.{expr_in, gave, needed, Code, placed}
 use Rattle.spec_table.specs.Tables.{table_spec}
-use Rattle.eval_data.specs.declared.flow.Flow.{Flow}
 use Rattle.eval_data.specs.declared.flow.Flow.TheVariants.{Gave}
 use Rattle.eval_data.specs.declared.frame.After.{After}
 use Rattle.eval_data.specs.declared.frame.After.TheVariants.{Value as ValueOf, Given}
-use Rattle.eval_data.specs.declared.frame.Frame.{Frame}
+use Rattle.eval_data.specs.declared.frame.Level.{Level}
 use Rattle.eval_data.specs.declared.need.Need.{Need}
+use Rattle.eval_data.specs.declared.nest.Nest.{Nest}
 use Rattle.eval_data.specs.declared.step.Step.{Step}
-use Rattle.eval_data.specs.declared.step.Step.TheVariants.{Finish, Fail, Part, Become, Need as NeedStep}
+use Rattle.eval_data.specs.declared.step.Step.TheVariants.{Finish, Fail, Part, Test, Become, Need as NeedStep}
 use Rattle.eval_data.specs.declared.wanted.Wanted.TheVariants.{Value as ValueWanted, Nothing}
-use Rattle.eval_data.specs.Parts.{need_of, flow_of}
+use Rattle.eval_data.specs.Parts.{nest_of, need_of, flow_of}
 use Rattle.eval_data.specs.Steps.{after_need, code_of}
+use Rattle.expr_eval.specs.declared.doing.Doing.{Doing}
 use Rattle.expr_eval.specs.declared.env.Env.{Env}
 use Rattle.expr_eval.specs.declared.eval.Eval.{Eval}
-use Rattle.expr_eval.specs.declared.eval.Next.{Next}
 use Rattle.expr_eval.specs.declared.eval.Next.TheVariants.{Step as Does, Waits}
 use Rattle.expr_eval.specs.declared.eval.Reached.{Reached}
 use Rattle.expr_eval.specs.declared.eval.Reached.TheVariants.{Needs as ReachedNeed}
 use Rattle.expr_eval.specs.declared.turn.Turn.{Turn}
 use Rattle.expr_eval.specs.declared.turn.Turn.TheVariants.{Needs, Value, Fault}
-use Rattle.expr_eval.specs.Evaluations.{of_evaluator, Evaluated, comes_to, alone, stands, evaluation, here_in, locals_in, pure_fault, PureResult}
+use Rattle.expr_eval.specs.Evaluations.{of_evaluator, Evaluated, stands, evaluation, here_in, locals_in, pure_fault, PureResult}
 use Rattle.expr_eval.specs.Turns.{stands_with, rest_at, rest, rests, Asks, Turned, pure_turn}
 use Rattle.expr_eval.specs.Weights.{weight, next_weight, rank}
 use Rattle.expr_eval.proofs.Resting.{asking-needs}
 
 -- ---- the beginning
 
-pub begins : (spec : SpecTree) (env : Env) (depth : ℕ) (tree : ExprTree) (here : Here) (locals : Locals) (place : Place) (frames : List Frame) (answers : List Answer) (units : ℕ)
+pub begins : (spec : SpecTree) (env : Env) (depth : ℕ) (tree : ExprTree) (here : Here) (locals : Locals) (place : Place) (frames : List Level) (answers : List Answer) (units : ℕ)
     → frames ≡ [] → here ≡ here_in env depth → locals ≡ locals_in env → place ≡ expr_place tree
     → stands spec place frames (become (expr_in (at here locals) tree)) answers units ≡ evaluation spec env depth tree answers units
 begins spec env depth tree here locals place frames answers units f h l p = rw (f, h, l, p) refl
 
 -- ---- the step that is next
 
-pub does : (e : Eval) (step : Step) (answers : List Answer) (units : ℕ) → e.next ≡ Does step → rest e answers units ≡ stands_with e step answers units
-does e step answers units is = ap (λ n. rest_at e n answers units) is
+pub does : (e : Eval) (doing : Doing) (answers : List Answer) (units : ℕ) → e.next ≡ Does doing → rest e answers units ≡ stands_with e doing.nest doing.step answers units
+does e doing answers units is = ap (λ n. rest_at e n answers units) is
 
 -- ---- turns
 
 -- a need that is open
-pub asks : (old new : Eval) (reached : Reached) (need : Need) (place : Place) (after : After) (units : ℕ)
-    → reached ≡ ReachedNeed need place after → new ≡ record old { next = Waits after place }
+pub asks : (old new : Eval) (reached : Reached) (need : Need) (nest : Nest) (place : Place) (after : After) (units : ℕ)
+    → reached ≡ ReachedNeed need nest place after → new ≡ record old { next = Waits nest after place }
     → Asks (need_of need) (λ answers. rests old reached answers units) new units
-asks old new reached need place after units is e = rw (is, e) (record {
-  needs_it = asking-needs (table_spec old.table.now) old.place old.frames.items (needed (need_of need)) (slot_then (after_need after place) old.locals.items) units;
+asks old new reached need nest place after units is e = rw (is, e) (record {
+  needs_it = asking-needs (table_spec old.table.now) old.place old.frames.items (needed (need_of need)) (λ answer. placed (nest_of nest) (slot_then (after_need after place) old.locals.items answer)) units;
   goes_on = λ slot answers. refl;
   waits = tt;
 })
@@ -83,39 +83,40 @@ advanced (Err x) stood before e units same t = tt
 
 -- ---- a slot is given
 
--- code that goes on with no need
-abbrev IsShort : Code → Type 0
-IsShort (finish flow) = Unit {0}
-IsShort (fail f) = Unit {0}
-IsShort (ask query further) = ⊥
-IsShort (part task further) = Unit {0}
-IsShort (become task) = Unit {0}
+-- code that is done
+abbrev IsDone : Code → Type 0
+IsDone (finish flow) = Unit {0}
+IsDone (fail f) = Unit {0}
+IsDone (ask query further) = ⊥
+IsDone (part task further) = ⊥
+IsDone (become task) = ⊥
 
-short-need : (after : After) (place : Place) (slot : Slot) (locals : Locals) → IsShort (after_need after place (gave slot locals))
-short-need ValueOf place (Held v) locals = tt
-short-need ValueOf place Unset locals = tt
-short-need (Given ValueWanted) place (Held v) locals = tt
-short-need (Given ValueWanted) place Unset locals = tt
-short-need (Given Nothing) place slot locals = tt
+done-need : (after : After) (place : Place) (slot : Slot) (locals : Locals) → IsDone (after_need after place (gave slot locals))
+done-need ValueOf place (Held v) locals = tt
+done-need ValueOf place Unset locals = tt
+done-need (Given ValueWanted) place (Held v) locals = tt
+done-need (Given ValueWanted) place Unset locals = tt
+done-need (Given Nothing) place slot locals = tt
 
-short-low : (spec : SpecTree) (locals : Locals) (s : Step) → IsShort (code_of (of_evaluator spec) locals s) → weight s ≤ 2
-short-low spec locals (Finish flow) h = omega arith
-short-low spec locals (Fail kind place) h = omega arith
-short-low spec locals (Part here tree frame) h = omega arith
-short-low spec locals (Become here tree) h = omega arith
-short-low spec locals (NeedStep need place after) h = absurd h
+done-low : (spec : SpecTree) (locals : Locals) (s : Step) → IsDone (code_of (of_evaluator spec) locals s) → weight s ≤ 4
+done-low spec locals (Finish flow) h = omega arith
+done-low spec locals (Fail kind place) h = omega arith
+done-low spec locals (Part here tree frame) h = absurd h
+done-low spec locals (Test here tree inner outer) h = absurd h
+done-low spec locals (Become here tree) h = absurd h
+done-low spec locals (NeedStep need place after) h = absurd h
 
--- what is done with a slot is no need
+-- what is done with a slot is no need and no part
 answered-low : (spec : SpecTree) (after : After) (place : Place) (slot : Slot) (s : Step)
-    → ((setting : Setting) (locals : Locals) → code_of setting locals s ≡ after_need after place (flow_of (Gave slot) locals)) → weight s ≤ 2
-answered-low spec after place slot s h = short-low spec [] s (rw (h (of_evaluator spec) []) (short-need after place slot []))
+    → ((setting : Setting) (locals : Locals) → code_of setting locals s ≡ after_need after place (flow_of (Gave slot) locals)) → weight s ≤ 4
+answered-low spec after place slot s h = done-low spec [] s (rw (h (of_evaluator spec) []) (done-need after place slot []))
 
-pub given-low : (old new : Eval) (spec : SpecTree) (after : After) (place : Place) (slot : Slot) (s : Step) (units : ℕ)
-    → old.next ≡ Waits after place → new ≡ record old { next = Does s }
+pub given-low : (old new : Eval) (spec : SpecTree) (nest : Nest) (after : After) (place : Place) (slot : Slot) (s : Step) (units : ℕ)
+    → old.next ≡ Waits nest after place → new ≡ record old { next = Does (record { nest = nest; step = s }) }
     → ((setting : Setting) (locals : Locals) → code_of setting locals s ≡ after_need after place (flow_of (Gave slot) locals))
     → rank new units < rank old units
-given-low old new spec after place slot s units waits e h =
-    let n : rank new units ≡ rank (record old { next = Does s }) units = ap (λ (m : Eval). rank m units) e in
+given-low old new spec nest after place slot s units waits e h =
+    let n : rank new units ≡ rank (record old { next = Does (record { nest = nest; step = s }) }) units = ap (λ (m : Eval). rank m units) e in
     omega (arith, answered-low spec after place slot s h, ap next_weight waits, n)
 
 -- ---- an expression that needs nothing

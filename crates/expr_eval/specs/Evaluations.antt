@@ -15,10 +15,12 @@ use Rattle.node_meaning.specs.Envs.{Locals, Here, at, bound_locals}
 use Rattle.node_meaning.specs.Faults.{Fault}
 use Rattle.node_meaning.specs.Needs.{Setting, evaluator}
 use Rattle.node_meaning.specs.TaskPlans.{plan_of}
-use Rattle.node_meaning.specs.Tasks.{expr_in, Flow, gave, next, returned, exited, Query, Code, spent, fault, value}
-use Rattle.eval_data.specs.declared.frame.Frame.{Frame}
-use Rattle.eval_data.specs.Parts.{held_of}
-use Rattle.eval_data.specs.Steps.{frame_then}
+use Rattle.node_meaning.specs.Tasks.{expr_in, Flow, gave, next, returned, exited, Query, Code, spent, placed, fault, value}
+use Rattle.eval_data.specs.declared.frame.Level.{Level}
+use Rattle.eval_data.specs.declared.nest.Nest.{Nest}
+use Rattle.eval_data.specs.declared.step.Step.{Step}
+use Rattle.eval_data.specs.Parts.{held_of, nest_of}
+use Rattle.eval_data.specs.Steps.{code_of, level_then}
 use Rattle.expr_eval.specs.declared.env.Env.{Env}
 
 -- who evaluates without a thread asks for each need as such
@@ -51,7 +53,7 @@ here_in env depth = record {
   own = env.own;
   me = env.me;
   held = option_map held_of env.held;
-  depth = depth;
+  nest = record { depth = depth; test = None };
 }
 
 -- what is bound there
@@ -65,17 +67,21 @@ evaluation spec env depth tree answers units =
 
 -- ---- on the way
 
--- what an outcome comes to where these frames wait for it, the outermost first
-abbrev pub unwind : SpecTree → List Frame → Evaluated → Evaluated
+-- what a step means whose node stands inside of these tests
+abbrev pub placed_code : Setting → Nest → Locals → Step → Code
+placed_code setting nest locals step = placed (nest_of nest) (code_of setting locals step)
+
+-- what an outcome comes to where these levels wait for it, the outermost first
+abbrev pub unwind : SpecTree → List Level → Evaluated → Evaluated
 unwind spec [] o = o
-unwind spec (frame ∷ others) o = onward (unwind spec others o) (λ r. comes_to spec (frame_then (of_evaluator spec) frame r))
+unwind spec (level ∷ others) o = onward (unwind spec others o) (λ r. comes_to spec (level_then (of_evaluator spec) level r))
 
 -- what the whole expression, which stands at the place, gives of an outcome
 abbrev pub whole : SpecTree → Place → Evaluated → Evaluated
 whole spec place o = onward o (λ r. comes_to spec (alone place r))
 
 -- where an evaluation stands that does this next
-abbrev pub stands : SpecTree → Place → List Frame → Code → List Answer → ℕ → Evaluated
+abbrev pub stands : SpecTree → Place → List Level → Code → List Answer → ℕ → Evaluated
 stands spec place frames code answers units = whole spec place (unwind spec frames (comes_to spec code answers units))
 
 -- ---- an expression that needs nothing

@@ -5,7 +5,7 @@ ghost use Rattle.node_meaning.specs.Envs.{bound_locals};
 ghost use Rattle.eval_data.specs.Parts.{here_of};
 ghost use Rattle.expr_eval.specs.Evaluations.{here_in, locals_in};
 
-use eval_data::{Held, Here};
+use eval_data::{Held, Here, Nest};
 use patterns::BindList;
 use std::alloc::Global;
 use vdm_kinds::{Name, OutOfMemory};
@@ -36,7 +36,7 @@ impl Env {
             own: self.own,
             me: self.me,
             held: self.held.as_ref(),
-            depth,
+            nest: Nest { depth, test: None },
         }
     }
 

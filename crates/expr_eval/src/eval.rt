@@ -10,10 +10,10 @@ ghost use Rattle.expr_eval.specs.Evaluations.{alone, evaluation};
 ghost use Rattle.expr_eval.specs.Turns.{rest, behind, rests, stands_with, IsReady, IsWaiting, IsSpent, IsNoStep, Turned, Ends};
 ghost use Rattle.expr_eval.specs.Weights.{load, weight, reached_weight, rank};
 
+use crate::doing::Doing;
 use crate::env::Env;
 use crate::turn::Turn;
-use eval_data::{After, Flow, Frame, Here, Need, Step};
-use eval_steps::{expression, then_of};
+use eval_data::{After, Flow, Frame, Here, Level, Need, Nest, Step};
 use expr_tree::Expr;
 use name_steps::after_need;
 use plans::take_unit;
@@ -25,9 +25,9 @@ use vdm_values::Slot;
 
 /// What an evaluation does next.
 enum Next<'t> {
-    Step(Step<'t>),
-    /// It waits for the slot that answers the need of the node at the place.
-    Waits(After, Place),
+    Step(Doing<'t>),
+    /// It waits for the slot that answers the need of the node at the place, inside of these tests of types.
+    Waits(Nest, After, Place),
     /// It gave a value or a fault.
     Over,
     /// It met want of memory.
@@ -36,12 +36,12 @@ enum Next<'t> {
 
 impl<'t> Next<'t> {
     /// The step, taken out, if there is one.
-    fn into_step(self) -> Option<Step<'t>>
-        ensures { MatchOption result (IsNoStep self.entry) (λ step. self.entry ≡ Next.Step step) }
+    fn into_step(self) -> Option<Doing<'t>>
+        ensures { MatchOption result (IsNoStep self.entry) (λ doing. self.entry ≡ Next.Step doing) }
     {
         match self {
-            Next::Step(step) => Some(step),
-            Next::Waits(_, _) => None,
+            Next::Step(doing) => Some(doing),
+            Next::Waits(_, _, _) => None,
             Next::Over => None,
             Next::Spent => None,
         }
@@ -52,8 +52,8 @@ impl<'t> Next<'t> {
 impl<'t> Drop for Next<'t> {
     fn drop(self) {
         match self {
-            Next::Step(_step) => {}
-            Next::Waits(_, _) => {}
+            Next::Step(_doing) => {}
+            Next::Waits(_, _, _) => {}
             Next::Over => {}
             Next::Spent => {}
         }
@@ -63,8 +63,8 @@ impl<'t> Drop for Next<'t> {
 /// Where an evaluation can't go on by itself.
 #[derive(Drop)]
 enum Reached {
-    /// The node at the place needs this.
-    Needs(Need, Place, After),
+    /// The node at the place needs this, inside of these tests of types.
+    Needs(Need, Nest, Place, After),
     Fails(RunFault, Place),
     /// This came of the whole expression.
     Gives(Flow),
@@ -77,7 +77,7 @@ enum Reached {
 pub struct Eval<'t> {
     table: &'t ClassTable,
     /// What waits for what comes of the parts that are entered, the outermost first.
-    frames: Vec<Frame<'t>>,
+    frames: Vec<Level<'t>>,
     /// The names that are bound where the evaluation stands, the newest last.
     locals: Vec<(Name, Slot)>,
     /// The place of the whole expression.
@@ -109,12 +109,16 @@ impl<'t> Eval<'t> {
         ensures { IfOk result (λ e. ((answers : List Answer) (units : ℕ) → rest e answers units ≡ evaluation (table_spec table.now) env.now depth (view_of tree.now) answers units) × IsReady e) }
     {
         let locals = env.first_locals(alloc)?;
+        let here = env.here(depth);
         Ok(Eval {
             table,
             frames: Vec::new(alloc),
             locals,
             place: tree.place(),
-            next: Next::Step(Step::Become(env.here(depth), tree)),
+            next: Next::Step(Doing {
+                nest: here.nest,
+                step: Step::Become(here, tree),
+            }),
         })
     }
 
@@ -128,7 +132,7 @@ impl<'t> Eval<'t> {
     {
         // Want of memory on the way leaves the evaluation spent.
         match mem::replace(&mut self.next, Next::Spent).into_step() {
-            Some(step) => self.go_on(alloc, fuel, step),
+            Some(doing) => self.go_on(alloc, fuel, doing),
             None => Err(OutOfMemory),
         }
     }
@@ -143,9 +147,10 @@ impl<'t> Eval<'t> {
         ensures err { OnErr result (IsSpent self.new) }
     {
         match &self.next {
-            Next::Waits(after, place) => {
+            Next::Waits(nest, after, place) => {
+                let nest = *nest;
                 let step = after_need(*after, *place, Flow::Gave(slot));
-                self.set_next(Next::Step(step));
+                self.set_next(Next::Step(Doing { nest, step }));
                 Ok(())
             }
             Next::Step(_) | Next::Over | Next::Spent => Err(OutOfMemory),
@@ -153,47 +158,73 @@ impl<'t> Eval<'t> {
     }
 
     /// Does the step and all that follow it, and says how far that is.
-    fn go_on(&mut self, alloc: Global, fuel: &mut u64, step: Step<'t>) -> Result<Turn, OutOfMemory>
-        ensures turned { IfOk result (λ turn. Turned turn (λ answers. stands_with self.old step.entry answers fuel.old) self.new fuel.new) }
-        ensures falls { OnOk result (rank self.new fuel.new < load self.old.frames.items fuel.old (weight step.entry)) }
+    fn go_on(
+        &mut self,
+        alloc: Global,
+        fuel: &mut u64,
+        doing: Doing<'t>,
+    ) -> Result<Turn, OutOfMemory>
+        ensures turned { IfOk result (λ turn. Turned turn (λ answers. stands_with self.old doing.entry.nest doing.entry.step answers fuel.old) self.new fuel.new) }
+        ensures falls { OnOk result (rank self.new fuel.new < load self.old.frames.items fuel.old (weight doing.entry.step)) }
         ensures err { OnErr result (self.new.next ≡ self.old.next) }
     {
-        let reached = self.run(alloc, fuel, step)?;
+        let reached = self.run(alloc, fuel, doing)?;
         Ok(self.turn(reached))
     }
 
     /// Does one step after another until the evaluation can't go on by itself, and says where.
-    fn run(&mut self, alloc: Global, fuel: &mut u64, step: Step<'t>) -> Result<Reached, OutOfMemory>
-        ensures same { IfOk result (λ r. (answers : List Answer) → rests self.new r answers fuel.new ≡ stands_with self.old step.entry answers fuel.old) }
-        ensures falls { IfOk result (λ r. load self.new.frames.items fuel.new (reached_weight r) < load self.old.frames.items fuel.old (weight step.entry)) }
+    fn run(
+        &mut self,
+        alloc: Global,
+        fuel: &mut u64,
+        doing: Doing<'t>,
+    ) -> Result<Reached, OutOfMemory>
+        ensures same { IfOk result (λ r. (answers : List Answer) → rests self.new r answers fuel.new ≡ stands_with self.old doing.entry.nest doing.entry.step answers fuel.old) }
+        ensures falls { IfOk result (λ r. load self.new.frames.items fuel.new (reached_weight r) < load self.old.frames.items fuel.old (weight doing.entry.step)) }
         ensures next { self.new.next ≡ self.old.next }
     {
-        let mut step = step;
+        let mut doing = doing;
         'steps: loop {
-            step = match step {
+            let Doing { nest, step } = doing;
+            doing = match step {
                 Step::Finish(flow) => match self.frames.pop() {
-                    Some(frame) => then_of(alloc, self.table, &mut self.locals, frame, flow)?,
+                    Some(level) => Doing::of_level(
+                        alloc,
+                        self.table,
+                        &mut self.locals,
+                        level,
+                        flow,
+                    )?,
                     None => return Ok(Reached::Gives(flow)),
                 },
-                Step::Part(here, tree, frame) => self.enter(alloc, fuel, here, tree, frame)?,
+                Step::Part(here, tree, frame) => self.enter(
+                    alloc,
+                    fuel,
+                    here,
+                    tree,
+                    Level { nest, frame },
+                )?,
+                Step::Test(here, tree, inner, outer) => self.test(nest, here, tree, inner, outer)?,
                 Step::Become(here, tree) => self.begin(alloc, fuel, here, tree)?,
-                Step::Need(need, place, after) => return Ok(Reached::Needs(need, place, after)),
-                Step::Fail(fault, place) => return Ok(Reached::Fails(fault, place)),
+                Step::Need(need, place, after) => return Ok(Reached::Needs(
+                    need, nest, place, after,
+                )),
+                Step::Fail(fault, place) => return Ok(Reached::Fails(fault, nest.place(place))),
             };
         }
     }
 
-    /// Enters a node, which takes a unit or is spent; and lets the frame wait for what comes of it.
+    /// Enters a node, which takes a unit or is spent; and lets the level wait for what comes of it.
     fn enter(
         &mut self,
         alloc: Global,
         fuel: &mut u64,
         here: Here<'t>,
         tree: &'t Expr,
-        frame: Frame<'t>,
-    ) -> Result<Step<'t>, OutOfMemory>
-        ensures same { IfOk result (λ s. (answers : List Answer) → stands_with self.new s answers fuel.new ≡ stands_with self.old (Step.Part here.entry tree.entry frame.entry) answers fuel.old) }
-        ensures falls { IfOk result (λ s. load self.new.frames.items fuel.new (weight s) < load self.old.frames.items fuel.old 2) }
+        level: Level<'t>,
+    ) -> Result<Doing<'t>, OutOfMemory>
+        ensures same { IfOk result (λ d. (answers : List Answer) → stands_with self.new d.nest d.step answers fuel.new ≡ stands_with self.old level.entry.nest (Step.Part here.entry tree.entry level.entry.frame) answers fuel.old) }
+        ensures falls { IfOk result (λ d. load self.new.frames.items fuel.new (weight d.step) < load self.old.frames.items fuel.old 2) }
         ensures table { self.new.table ≡ self.old.table }
         ensures place { self.new.place ≡ self.old.place }
         ensures next { self.new.next ≡ self.old.next }
@@ -201,11 +232,33 @@ impl<'t> Eval<'t> {
         match take_unit(*fuel) {
             Some(left) => {
                 *fuel = left;
-                self.frames.push(frame)?;
-                expression(alloc, self.table, &mut self.locals, here, tree)
+                self.frames.push(level)?;
+                Doing::of_node(alloc, self.table, &mut self.locals, here, tree)
             }
-            None => Ok(Step::Fail(RunFault::StepLimit, tree.place())),
+            None => Ok(Doing::spent(here, tree)),
         }
+    }
+
+    /// Lets the outer frame wait for what comes of the test of a value; the part of that test is next.
+    fn test(
+        &mut self,
+        nest: Nest,
+        here: Here<'t>,
+        tree: &'t Expr,
+        inner: Frame<'t>,
+        outer: Frame<'t>,
+    ) -> Result<Doing<'t>, OutOfMemory>
+        ensures same { IfOk result (λ d. (answers : List Answer) (units : ℕ) → stands_with self.new d.nest d.step answers units ≡ stands_with self.old nest (Step.Test here.entry tree.entry inner.entry outer.entry) answers units) }
+        ensures falls { IfOk result (λ d. (units : ℕ) → load self.new.frames.items units (weight d.step) < load self.old.frames.items units 6) }
+        ensures table { self.new.table ≡ self.old.table }
+        ensures place { self.new.place ≡ self.old.place }
+        ensures next { self.new.next ≡ self.old.next }
+    {
+        self.frames.push(Level { nest, frame: outer })?;
+        Ok(Doing {
+            nest,
+            step: Step::Part(here, tree, inner),
+        })
     }
 
     /// Enters a node in the stead of another.
@@ -215,9 +268,9 @@ impl<'t> Eval<'t> {
         fuel: &mut u64,
         here: Here<'t>,
         tree: &'t Expr,
-    ) -> Result<Step<'t>, OutOfMemory>
-        ensures same { IfOk result (λ s. (answers : List Answer) → stands_with self.new s answers fuel.new ≡ stands_with self.old (Step.Become here.entry tree.entry) answers fuel.old) }
-        ensures falls { IfOk result (λ s. load self.new.frames.items fuel.new (weight s) < load self.old.frames.items fuel.old 2) }
+    ) -> Result<Doing<'t>, OutOfMemory>
+        ensures same { IfOk result (λ d. (answers : List Answer) → stands_with self.new d.nest d.step answers fuel.new ≡ stands_with self.old here.entry.nest (Step.Become here.entry tree.entry) answers fuel.old) }
+        ensures falls { IfOk result (λ d. load self.new.frames.items fuel.new (weight d.step) < load self.old.frames.items fuel.old 2) }
         ensures table { self.new.table ≡ self.old.table }
         ensures place { self.new.place ≡ self.old.place }
         ensures next { self.new.next ≡ self.old.next }
@@ -225,9 +278,9 @@ impl<'t> Eval<'t> {
         match take_unit(*fuel) {
             Some(left) => {
                 *fuel = left;
-                expression(alloc, self.table, &mut self.locals, here, tree)
+                Doing::of_node(alloc, self.table, &mut self.locals, here, tree)
             }
-            None => Ok(Step::Fail(RunFault::StepLimit, tree.place())),
+            None => Ok(Doing::spent(here, tree)),
         }
     }
 
@@ -237,8 +290,8 @@ impl<'t> Eval<'t> {
         ensures low { (units : ℕ) → rank self.new units ≡ load self.old.frames.items units (reached_weight reached) }
     {
         match reached {
-            Reached::Needs(need, place, after) => {
-                self.set_next(Next::Waits(after, place));
+            Reached::Needs(need, nest, place, after) => {
+                self.set_next(Next::Waits(nest, after, place));
                 Turn::Needs(need)
             }
             Reached::Fails(fault, place) => {

@@ -1,6 +1,7 @@
 //! The evaluation of one expression without a thread: it stands where the meaning stands, and hands out what it needs.
 #![tactic(auto)]
 
+mod doing;
 mod env;
 mod eval;
 mod pure;

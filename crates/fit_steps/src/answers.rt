@@ -1,84 +1,71 @@
 // Whether values fit types, as values.
 
-ghost use Rattle.std.specs.Prelude.{◌≡◌, IfOk};
+ghost use Rattle.std.specs.Prelude.{◌≡◌, [], IfOk, Some, None, if◌then◌else◌, option_map};
+ghost use Rattle.vdm_kinds.specs.declared.place.Place.{Place as PlaceOf};
 ghost use Rattle.spec_table.specs.Tables.{table_spec};
-ghost use Rattle.abstract_syntax.specs.Types.{TypeTree};
-ghost use Rattle.type_tree.specs.TypeView.{type_view};
-ghost use Rattle.node_meaning.specs.Envs.{Locals};
+ghost use Rattle.node_meaning.specs.Envs.{type_scope};
 ghost use Rattle.node_meaning.specs.Expressions.{fit_value};
-ghost use Rattle.node_meaning.specs.Fitting.{fit_answer, fitting_in};
-ghost use Rattle.node_meaning.specs.Needs.{Setting};
-ghost use Rattle.node_meaning.specs.Tasks.{value_or_fault};
-ghost use Rattle.type_meaning.specs.Tests.{Decision, Fitting};
-ghost use Rattle.eval_data.specs.Parts.{asked_type};
+ghost use Rattle.node_meaning.specs.Needs.{Asker};
+ghost use Rattle.type_meaning.specs.Shapes.{is_of_basic, tests_of};
+ghost use Rattle.member_meaning.specs.TypeRanks.{finder, type_rank};
+ghost use Rattle.spec_table.specs.Members.{descends_from};
+ghost use Rattle.conform.specs.Frames.{found_in};
+ghost use Rattle.eval_data.specs.Parts.{asked_type, nest_of};
 ghost use Rattle.eval_data.specs.Steps.{code_of};
-ghost use Rattle.fit_steps.specs.Decided.{fitted_as};
+ghost use Rattle.fit_steps.specs.Tests.{under};
 
-use crate::fitted::{Fitted, fit_of};
-use eval_data::{AskedType, Step};
-use expr_tree::TypeExpr;
+use crate::fitting::judged;
+use bind_steps::type_scope;
+use conform::{Test, is_of_basic, tests_of, tests_of_name};
+use eval_data::{AskedType, Nest, Step, Verdict};
 use spec_table::ClassTable;
 use std::alloc::Global;
-use vdm_kinds::{Name, OutOfMemory, Place, RunFault};
-use vdm_values::{Node, Value};
+use vdm_kinds::{BasicType, Name, OutOfMemory, Place};
+use vdm_values::{Slot, Value};
 
 /// Whether a value fits a type in the class of the node at the place, as the value of that node.
 pub fn fit_answer<'t>(
     alloc: Global,
-    table: &ClassTable,
+    table: &'t ClassTable,
+    locals: &mut Vec<(Name, Slot)>,
+    nest: Nest,
     scope: Option<Name>,
-    asked: AskedType<'_>,
+    asked: AskedType<'t>,
     place: Place,
     value: &Value,
 ) -> Result<Step<'t>, OutOfMemory>
-    ensures { IfOk result (λ s. (setting : Setting) (locals : Locals) → code_of setting locals s ≡ fit_value (table_spec table.now) scope (asked_type place asked.entry) place value.now locals) }
+    ensures { IfOk result (λ s. (asker : Asker) → code_of (under (table_spec table.entry.now) asker) locals.new.items s ≡ fit_value (table_spec table.entry.now) (nest_of nest) scope (asked_type place asked.entry) place value.now locals.old.items) }
 {
+    let tests = wanted(alloc, table, scope, asked, value)?;
+    let tested = judged(alloc, table, locals, nest, place, Verdict::Answers, tests)?;
+    Ok(tested.into_step(place))
+}
+
+/// What has to hold of the value, so that the type takes it; none where it has another shape.
+fn wanted<'t>(
+    alloc: Global,
+    table: &'t ClassTable,
+    scope: Option<Name>,
+    asked: AskedType<'t>,
+    value: &Value,
+) -> Result<Option<Vec<Test<'t>>>, OutOfMemory>
+    ensures { IfOk result (λ found. (place : PlaceOf) → option_map (λ tests. found_in (finder (table_spec table.entry.now)) (descends_from (table_spec table.entry.now)) (type_rank (table_spec table.entry.now)) tests.items) found ≡ tests_of (finder (table_spec table.entry.now)) (descends_from (table_spec table.entry.now)) (type_rank (table_spec table.entry.now)) value.now (type_scope scope) (asked_type place asked.entry)) }
+{
+    let class = type_scope(scope);
     match asked {
-        AskedType::Written(declared) => answered(alloc, table, scope, declared, place, value),
-        AskedType::Named(name) => {
-            answered(
-                alloc,
-                table,
-                scope,
-                &TypeExpr::Named(name, place),
-                place,
-                value,
-            )
-        }
-        AskedType::Basic(basic) => {
-            answered(
-                alloc,
-                table,
-                scope,
-                &TypeExpr::Basic(basic, place),
-                place,
-                value,
-            )
-        }
+        AskedType::Written(declared) => tests_of(alloc, value, class, declared, table),
+        AskedType::Named(name) => tests_of_name(alloc, value, class, name, table),
+        AskedType::Basic(basic) => Ok(plainly(alloc, basic, value)),
     }
 }
 
-fn answered<'t>(
-    alloc: Global,
-    table: &ClassTable,
-    scope: Option<Name>,
-    declared: &TypeExpr,
-    place: Place,
-    value: &Value,
-) -> Result<Step<'t>, OutOfMemory>
-    ensures { IfOk result (λ s. (setting : Setting) (locals : Locals) → code_of setting locals s ≡ fit_value (table_spec table.now) scope (type_view declared.now) place value.now locals) }
+/// A type of a word wants nothing beside its shape.
+fn plainly<'t>(alloc: Global, basic: BasicType, value: &Value) -> Option<Vec<Test<'t>>>
+    ensures { option_map (λ tests. tests.items) result ≡ (if is_of_basic basic value.now then Some [] else None) }
 {
-    let fitted = fit_of(alloc, table, scope, declared, value)?;
-    Ok(answer(fitted, place))
-}
-
-fn answer<'t>(fitted: Fitted, place: Place) -> Step<'t>
-    ensures { (decision : Decision Fitting) → fitted ≡ fitted_as decision → (setting : Setting) (locals : Locals) → code_of setting locals result ≡ value_or_fault place (fit_answer decision) locals }
-{
-    match fitted {
-        Fitted::Fits => Step::value(Value::new(Node::Bool(true))),
-        Fitted::WrongType => Step::value(Value::new(Node::Bool(false))),
-        Fitted::WrongInvariant => Step::value(Value::new(Node::Bool(false))),
-        Fitted::Asks => Step::Fail(RunFault::Undefined, place),
+    if is_of_basic(basic, value) {
+        Some(Vec::new(alloc))
+    } else {
+        None
     }
 }

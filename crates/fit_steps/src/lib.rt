@@ -1,9 +1,18 @@
-//! Whether values fit declared types, for the steps of the machine.
+//! Whether values fit declared types: the shape, and then the invariants, of which each is evaluated.
 #![tactic(auto)]
 
+mod advancing;
 mod answers;
-mod faults;
-mod fitted;
+mod fitting;
+mod invariants;
+mod parts;
+mod sharing;
+mod tested;
+mod verdicts;
 
+pub use advancing::told;
 pub use answers::fit_answer;
-pub use faults::{maybe_fault, type_fault, type_scope};
+pub use fitting::{fitted, fitted_maybe};
+pub use invariants::behind_brackets;
+pub use sharing::all_shared;
+pub use tested::Tested;

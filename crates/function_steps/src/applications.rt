@@ -5,21 +5,20 @@ ghost use Rattle.expr_tree.specs.View.{expr_trees, views_of};
 ghost use Rattle.vdm_tree.specs.ClassView.{function_view};
 ghost use Rattle.node_meaning.specs.Functions.{applied, applied_to};
 ghost use Rattle.node_meaning.specs.Needs.{Asker};
+ghost use Rattle.eval_data.specs.Parts.{nest_of};
 ghost use Rattle.eval_data.specs.Steps.{code_of};
 ghost use Rattle.spec_table.specs.Tables.{table_spec};
-ghost use Rattle.function_steps.specs.Applications.{begun_with};
 
-use crate::arguments::{all_shared, arguments_fault};
+use crate::arguments::arguments_left;
 use crate::look_ups::function_definition;
-use crate::parameters::binds;
-use eval_data::{Applying, Step};
+use eval_data::{Nest, Passing, Step};
 use expr_tree::Expr;
+use fit_steps::all_shared;
 use spec_table::ClassTable;
 use std::alloc::Global;
-use std::mem;
 use vdm_kinds::{Name, OpRef, OutOfMemory, Place, RunFault};
 use vdm_tree::FunctionDef;
-use vdm_values::{Slot, Value, ValueList};
+use vdm_values::{Slot, Value};
 
 /// A function is applied to the values of the arguments.
 pub fn applied<'t>(
@@ -28,16 +27,16 @@ pub fn applied<'t>(
     locals: &mut Vec<(Name, Slot)>,
     op: OpRef,
     place: Place,
-    depth: u32,
+    nest: Nest,
     arguments: &'t [Expr],
     values: Vec<Value>,
 ) -> Result<Step<'t>, OutOfMemory>
-    ensures { IfOk result (λ s. (asker : Asker) → code_of (record { spec = table_spec table.entry.now; asker = asker }) locals.new.items s ≡ applied (table_spec table.entry.now) op place depth (expr_trees (views_of arguments.entry.now)) values.items locals.old.items) }
+    ensures { IfOk result (λ s. (asker : Asker) → code_of (record { spec = table_spec table.entry.now; asker = asker }) locals.new.items s ≡ applied (table_spec table.entry.now) op place (nest_of nest) (expr_trees (views_of arguments.entry.now)) values.items locals.old.items) }
 {
     match function_definition(table, &op) {
         None => Ok(Step::Fail(RunFault::TypeFault, place)),
         Some(function) => applied_to(
-            alloc, table, locals, op, function, place, depth, arguments, values,
+            alloc, table, locals, op, function, place, nest, arguments, values,
         ),
     }
 }
@@ -50,41 +49,22 @@ fn applied_to<'t>(
     op: OpRef,
     function: &'t FunctionDef,
     place: Place,
-    depth: u32,
+    nest: Nest,
     arguments: &'t [Expr],
     values: Vec<Value>,
 ) -> Result<Step<'t>, OutOfMemory>
-    ensures { IfOk result (λ s. (asker : Asker) → code_of (record { spec = table_spec table.entry.now; asker = asker }) locals.new.items s ≡ applied_to (table_spec table.entry.now) op (Some (function_view function.entry.now)) place depth (expr_trees (views_of arguments.entry.now)) values.items locals.old.items) }
+    ensures { IfOk result (λ s. (asker : Asker) → code_of (record { spec = table_spec table.entry.now; asker = asker }) locals.new.items s ≡ applied_to (table_spec table.entry.now) op (Some (function_view function.entry.now)) place (nest_of nest) (expr_trees (views_of arguments.entry.now)) values.items locals.old.items) }
 {
     let values = all_shared(alloc, values)?;
-    let types = function.parameters.as_slice();
-    match arguments_fault(alloc, table, op.class, types, arguments, values.as_slice())? {
-        None => begun(
-            alloc, table, locals, op.class, function, place, depth, values,
-        ),
-        Some((fault, at)) => Ok(Step::Fail(fault, at)),
-    }
-}
-
-// The parameters are bound, among no other locals.
-fn begun<'t>(
-    alloc: Global,
-    table: &'t ClassTable,
-    locals: &mut Vec<(Name, Slot)>,
-    class: Name,
-    function: &'t FunctionDef,
-    place: Place,
-    depth: u32,
-    values: ValueList,
-) -> Result<Step<'t>, OutOfMemory>
-    ensures { IfOk result (λ s. (asker : Asker) → code_of (record { spec = table_spec table.entry.now; asker = asker }) locals.new.items s ≡ begun_with (table_spec table.entry.now) class (function_view function.entry.now) place depth values locals.old.items) }
-{
-    let applying = Applying {
-        class,
+    let passing = Passing {
+        op,
         function,
         place,
-        depth,
-        outer: mem::replace(locals, Vec::new(alloc)),
+        nest,
+        types: function.parameters.as_slice(),
+        arguments,
+        values,
+        tested: 0,
     };
-    binds(alloc, table, locals, Box::new(alloc, applying)?, values)
+    arguments_left(alloc, table, locals, passing)
 }

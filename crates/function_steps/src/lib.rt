@@ -12,7 +12,8 @@ mod parts;
 mod results;
 
 pub use applications::applied;
+pub use arguments::argument_fits;
 pub use bodies::pre_decided;
 pub use class_values::{class_value, value_given};
 pub use parameters::bound;
-pub use results::{post_decided, result_given, result_name};
+pub use results::{post_decided, post_of, result_given, result_name};

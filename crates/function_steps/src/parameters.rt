@@ -5,30 +5,52 @@ ghost use Rattle.expr_tree.specs.View.{boxed_view, pattern_views};
 ghost use Rattle.vdm_kinds.specs.declared.place.Place.{Place as PlaceOf};
 ghost use Rattle.node_meaning.specs.Envs.{Locals};
 ghost use Rattle.node_meaning.specs.Expressions.{no_match};
-ghost use Rattle.node_meaning.specs.Functions.{body_here, bound, pre_of};
+ghost use Rattle.vdm_tree.specs.ClassView.{function_view};
+ghost use Rattle.node_meaning.specs.Functions.{begun, body_here, bound, pre_of};
 ghost use Rattle.node_meaning.specs.Matching.{exprs_of, met};
 ghost use Rattle.node_meaning.specs.Needs.{Asker, Setting};
 ghost use Rattle.node_meaning.specs.Strict.{with_others};
 ghost use Rattle.node_meaning.specs.Tasks.{Code, evaluated};
-ghost use Rattle.eval_data.specs.Parts.{applying_of, boxed_list, patterns_at};
+ghost use Rattle.eval_data.specs.Parts.{applying_of, boxed_list, nest_of, patterns_at};
 ghost use Rattle.eval_data.specs.Steps.{code_of};
 ghost use Rattle.spec_table.specs.Tables.{table_spec};
-ghost use Rattle.match_steps.specs.Attempts.{attempted};
+ghost use Rattle.bind_steps.specs.Attempts.{attempted};
 ghost use Rattle.function_steps.specs.Applications.{binds_among};
 
 use crate::bodies::pre_of;
 use crate::brackets::{first_of, givens_of};
 use crate::parts::{body_here, collecting_part};
-use eval_data::{Applying, Parts, Step, Then};
+use bind_steps::{Attempt, bound_or};
+use eval_data::{Applying, Parts, Passing, Step, Then};
 use expr_tree::{Expr, Pattern};
-use match_steps::{Attempt, bound_or};
 use spec_table::ClassTable;
 use std::alloc::Global;
+use std::mem;
 use vdm_kinds::{Name, OutOfMemory, RunFault};
 use vdm_values::{Slot, Value, ValueList};
 
+/// A function whose arguments fit begins: its parameters are bound, among no other locals.
+pub(crate) fn begun<'t>(
+    alloc: Global,
+    table: &ClassTable,
+    locals: &mut Vec<(Name, Slot)>,
+    passing: Passing<'t>,
+) -> Result<Step<'t>, OutOfMemory>
+    ensures { IfOk result (λ s. (asker : Asker) → code_of (record { spec = table_spec table.now; asker = asker }) locals.new.items s ≡ begun (table_spec table.now) passing.entry.op.class (function_view passing.entry.function.now) passing.entry.place (nest_of passing.entry.nest) passing.entry.values locals.old.items) }
+{
+    let applying = Applying {
+        class: passing.op.class,
+        function: passing.function,
+        place: passing.place,
+        nest: passing.nest,
+        outer: mem::replace(locals, Vec::new(alloc)),
+    };
+    let applying = Box::new(alloc, applying)?;
+    binds(alloc, table, locals, applying, passing.values)
+}
+
 /// The expressions in brackets in the patterns of the parameters come first, where there are any.
-pub(crate) fn binds<'t>(
+fn binds<'t>(
     alloc: Global,
     table: &ClassTable,
     locals: &mut Vec<(Name, Slot)>,

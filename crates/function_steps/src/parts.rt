@@ -9,25 +9,25 @@ ghost use Rattle.node_meaning.specs.Functions.{body_here};
 ghost use Rattle.node_meaning.specs.Needs.{Setting};
 ghost use Rattle.node_meaning.specs.Strict.{collected};
 ghost use Rattle.node_meaning.specs.Tasks.{expr_in};
-ghost use Rattle.eval_data.specs.Parts.{applying_of, here_of, parts_of};
+ghost use Rattle.eval_data.specs.Parts.{applying_of, here_of, nest_of, parts_of};
 ghost use Rattle.eval_data.specs.Steps.{code_of, frame_then, then_of};
 
-use eval_data::{Applying, Collecting, Frame, Here, Parts, Step, Then, Use};
+use eval_data::{Applying, Frame, Here, Nest, Parts, Step, Then};
 use expr_tree::Expr;
 use std::alloc::Global;
 use vdm_kinds::{Name, OutOfMemory, Place};
 use vdm_values::Value;
 
-/// Where the functions and class values of a class stand, inside of so many tests of invariants of types.
-pub(crate) fn inside_class<'t>(class: Name, depth: u32) -> Here<'t>
-    ensures { here_of result ≡ inside_class class depth }
+/// Where the functions and class values of a class stand.
+pub(crate) fn inside_class<'t>(class: Name, nest: Nest) -> Here<'t>
+    ensures { here_of result ≡ inside_class class (nest_of nest) }
 {
     Here {
         scope: Some(class),
         own: None,
         me: None,
         held: None,
-        depth,
+        nest,
     }
 }
 
@@ -35,7 +35,7 @@ pub(crate) fn inside_class<'t>(class: Name, depth: u32) -> Here<'t>
 pub(crate) fn body_here<'t>(applying: &Applying<'t>) -> Here<'t>
     ensures { here_of result ≡ body_here (applying_of applying.now) }
 {
-    inside_class(applying.class, applying.depth)
+    inside_class(applying.class, applying.nest)
 }
 
 /// A part, and what is done with what comes of it.
@@ -57,13 +57,6 @@ pub(crate) fn collecting_part<'t>(
 ) -> Result<Step<'t>, OutOfMemory>
     ensures { IfOk result (λ s. (setting : Setting) (locals : Locals) → code_of setting locals s ≡ collected (here_of here.entry) place (one_expr (boxed_view first.now) (parts_of rest.entry)) done.items (then_of setting.spec then.entry (here_of here.entry) place) locals) }
 {
-    let collecting = Collecting {
-        here,
-        place,
-        rest,
-        done,
-        then,
-    };
-    let collect = Use::Collect(Box::new(alloc, collecting)?);
-    Ok(part(here, first, Frame::With(collect, place)))
+    let frame = Frame::collecting(alloc, here, place, rest, done, then)?;
+    Ok(part(here, first, frame))
 }

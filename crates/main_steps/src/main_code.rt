@@ -9,7 +9,7 @@ ghost use Rattle.eval_data.specs.Parts.{here_of, flow_of};
 ghost use Rattle.step_data.specs.Parts.{task_of};
 ghost use Rattle.step_data.specs.Actions.{action_code, main_expression, height};
 
-use eval_data::{Flow, Here};
+use eval_data::{Flow, Here, Nest};
 use step_data::{Action, Asking, Task, Waiting};
 use vdm_kinds::Name;
 use vdm_tree::Expr;
@@ -45,7 +45,7 @@ fn outside<'t>() -> Here<'t>
         own: None,
         me: None,
         held: None,
-        depth: 0,
+        nest: Nest::none(),
     }
 }
 

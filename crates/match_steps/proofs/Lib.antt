@@ -1,4 +1,3 @@
 pub mod Behind
-pub mod Bounds
 pub mod Firsts
 pub mod Handed

@@ -17,7 +17,7 @@ use Rattle.eval_data.specs.Steps.{matched, met_here, met_with}
 use Rattle.match_steps.specs.declared.trial.Tried.{Tried}
 use Rattle.match_steps.specs.declared.trial.Tried.TheVariants.{AtOnce, Waits}
 use Rattle.match_steps.specs.declared.trial.Trial.{Trial}
-use Rattle.match_steps.specs.Attempts.{attempted}
+use Rattle.bind_steps.specs.Attempts.{attempted}
 
 -- ---- what is left behind a pattern
 

@@ -91,7 +91,7 @@ pub(crate) fn defining<'t>(
     definition: MetDefinition<'t>,
     place: Place,
 ) -> Step<'t>
-    ensures { (setting : Setting) (locals : Locals) → code_of setting locals result ≡ evaluated (here_of here.entry) locals (boxed_view value.now) place (typed_maybe setting.spec (here_of here.entry).scope (maybe_type declared.entry) place (meets_with setting.spec (Definition here.entry definition.entry) place)) }
+    ensures { (setting : Setting) (locals : Locals) → code_of setting locals result ≡ evaluated (here_of here.entry) locals (boxed_view value.now) place (typed_maybe setting.spec (here_of here.entry).nest (here_of here.entry).scope (maybe_type declared.entry) place (meets_with setting.spec (Definition here.entry definition.entry) place)) }
 {
     let frame = Frame::With(Use::Defined(here, declared, definition), place);
     part(here, value, frame)

@@ -10,15 +10,15 @@ ghost use Rattle.node_meaning.specs.Tasks.{evaluated};
 ghost use Rattle.eval_data.specs.Parts.{boxed_list};
 ghost use Rattle.eval_data.specs.Steps.{code_of, matched, meets_with, met_here, met_with, missed};
 ghost use Rattle.spec_table.specs.Tables.{table_spec};
-ghost use Rattle.match_steps.specs.Attempts.{attempted};
+ghost use Rattle.bind_steps.specs.Attempts.{attempted};
 ghost use Rattle.match_steps.specs.Trials.{ended_as, left_over};
 
 use crate::alternatives::{left_over, next_of};
-use crate::attempt::Attempt;
 use crate::definitions::defined;
 use crate::parts::{met_here, part, within};
 use crate::trial::{Trial, Tried};
 use crate::trying::{meet, settled};
+use bind_steps::Attempt;
 use eval_data::{Collecting, Frame, Met, Parts, Step, Then, Use};
 use expr_tree::Expr;
 use spec_table::ClassTable;

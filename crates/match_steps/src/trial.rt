@@ -1,6 +1,6 @@
 // A pattern that was tried with a value.
 
-use crate::attempt::Attempt;
+use bind_steps::Attempt;
 use eval_data::Met;
 use expr_tree::Expr;
 

@@ -9,14 +9,13 @@ ghost use Rattle.node_meaning.specs.Matching.{met as met_given};
 ghost use Rattle.node_meaning.specs.Tasks.{Code};
 ghost use Rattle.eval_data.specs.Steps.{meets_with, met_here, met_pattern, missed};
 ghost use Rattle.spec_table.specs.Tables.{table_spec};
-ghost use Rattle.match_steps.specs.Attempts.{attempted};
+ghost use Rattle.bind_steps.specs.Attempts.{attempted};
 ghost use Rattle.match_steps.specs.Trials.{ended_as, further_count, left_over, tried_as};
 
 use crate::alternatives::next_of;
-use crate::attempt::Attempt;
-use crate::binding::bound_or;
 use crate::parts::{first_of, met_here, met_pattern};
 use crate::trial::{Trial, Tried};
+use bind_steps::{Attempt, bound_or};
 use eval_data::Met;
 use pattern_brackets::givens_in;
 use spec_table::ClassTable;

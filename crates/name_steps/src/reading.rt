@@ -94,7 +94,7 @@ fn member_value<'t>(
     ensures { IfOk result (λ s. (setting : Setting) → setting.spec ≡ table_spec table.entry.now → (scope : Option NameOf) (name : NameOf) → variable ≡ variable_in (table_spec table.entry.now) scope name → code_of setting locals.new.items s ≡ member_value setting (here_of here.entry) place scope name value locals.old.items) }
 {
     match value {
-        Some(reference) => class_value(alloc, table, locals, reference, place, here.depth),
+        Some(reference) => class_value(alloc, table, locals, reference, place, here.nest),
         None => read_found(alloc, here, variable, place),
     }
 }

@@ -3,8 +3,9 @@
 
 mod answered;
 mod task;
+mod values;
 mod waiting;
 
 pub use answered::answered_of;
-pub use task::plan_of;
+pub use task::node_plan;
 pub use waiting::then_of;

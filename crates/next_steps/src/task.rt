@@ -1,7 +1,7 @@
 // What a task does first.
 
 ghost use Rattle.std.specs.Prelude.{◌≡◌, ◌≤◌, IfOk};
-ghost use Rattle.node_meaning.specs.TaskPlans.{plan_of};
+ghost use Rattle.node_meaning.specs.TaskPlans.{node_plan};
 ghost use Rattle.spec_table.specs.Tables.{table_spec};
 ghost use Rattle.step_data.specs.Parts.{task_of};
 ghost use Rattle.step_data.specs.Actions.{action_code, height, of_thread};
@@ -14,14 +14,14 @@ use stmt_steps::statement;
 use vdm_kinds::{Name, OutOfMemory};
 use vdm_values::Slot;
 
-/// What the node does.
-pub fn plan_of<'t>(
+/// What the node does, where its faults stand aside.
+pub fn node_plan<'t>(
     alloc: Global,
     table: &'t ClassTable,
     locals: &mut Vec<(Name, Slot)>,
     task: Task<'t>,
 ) -> Result<Action<'t>, OutOfMemory>
-    ensures same { IfOk result (λ a. action_code (table_spec table.now) locals.new.items a ≡ plan_of (of_thread (table_spec table.now)) (task_of task.entry locals.old.items)) }
+    ensures same { IfOk result (λ a. action_code (table_spec table.now) locals.new.items a ≡ node_plan (of_thread (table_spec table.now)) (task_of task.entry locals.old.items)) }
     ensures falls { IfOk result (λ a. height a ≤ 5) }
 {
     match task {

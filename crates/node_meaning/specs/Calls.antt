@@ -1,22 +1,22 @@
 -- What a call of an operation does, from its request to its finish. So far no operation has a parameter.
-use Rattle.std.specs.Prelude.{ℕ, [], Option, Some, None, Result, Ok, Err}
+use Rattle.std.specs.Prelude.{ℕ, [], Option, Some, None}
 use Rattle.vdm_kinds.specs.declared.member.OpRef.{OpRef}
 use Rattle.vdm_kinds.specs.declared.name.Name.{Name}
 use Rattle.vdm_kinds.specs.declared.place.Place.{Place}
-use Rattle.vdm_kinds.specs.declared.run_fault.RunFault.{RunFault}
 use Rattle.vdm_kinds.specs.declared.run_fault.RunFault.TheVariants.{GuardFault, NoReturn, TypeFault, Undefined}
 use Rattle.vdm_values.specs.declared.slot.Slot.{Slot}
 use Rattle.vdm_values.specs.declared.slot.Slot.TheVariants.{Unset, Held}
 use Rattle.abstract_syntax.specs.Types.{TypeTree}
+use Rattle.abstract_syntax.specs.Values.{ValueTree}
 use Rattle.abstract_syntax.specs.Statements.{StmtTree}
 use Rattle.abstract_syntax.specs.Classes.{Body, written, OperationTree, SpecTree}
 use Rattle.run_journal.specs.declared.answer.Answer.{Answer}
 use Rattle.run_journal.specs.declared.answer.Answer.TheVariants.{Inner}
 use Rattle.run_journal.specs.declared.question.Question.TheVariants.{Req, Act, Fin}
 use Rattle.plans.specs.Plans.{finish, ask, part}
-use Rattle.node_meaning.specs.Envs.{Locals, at, inside}
+use Rattle.node_meaning.specs.Envs.{Locals, no_nest, at, inside}
 use Rattle.node_meaning.specs.Tasks.{stmt_in, Flow, gave, next, returned, exited, noted, Code, fault, value}
-use Rattle.node_meaning.specs.Fitting.{type_fault}
+use Rattle.node_meaning.specs.Fitting.{typed}
 
 -- ---- what a call gives
 
@@ -40,27 +40,27 @@ given wanted place (exited v from locals) = finish (exited v from locals)
 
 -- ---- what a call does
 
-abbrev pub unless_wrong : Option RunFault → Slot → Result Slot RunFault
-unless_wrong None slot = Ok slot
-unless_wrong (Some kind) slot = Err kind
+-- the call asks to finish, with what it gives
+abbrev pub finished : ℕ → OpRef → Slot → Locals → Code
+finished me op slot locals = ask (noted (Fin me op)) (λ _. finish (gave slot locals))
 
--- a result against the declared type, if there is one: a result that is due has to come, and has to fit; else none may come
-abbrev pub tested : SpecTree → Name → Option TypeTree → Slot → Result Slot RunFault
-tested spec class None Unset = Ok Unset
-tested spec class None (Held v) = Err TypeFault
-tested spec class (Some declared) Unset = Err NoReturn
-tested spec class (Some declared) (Held v) = unless_wrong (type_fault spec (Some class) declared v) (Held v)
+abbrev pub finished_with : ℕ → OpRef → ValueTree → Locals → Code
+finished_with me op v locals = finished me op (Held v) locals
 
--- a fault of the result stands at the call; else the call asks to finish
-abbrev pub finished : ℕ → OpRef → Place → Locals → Result Slot RunFault → Code
-finished me op place locals (Err kind) = fault kind place
-finished me op place locals (Ok slot) = ask (noted (Fin me op)) (λ _. finish (gave slot locals))
+-- A result against the declared type, if there is one: a result that is due has to come, and has to fit; else none may come. A fault
+-- stands at the call. No body of an operation stands inside a test of a type.
+abbrev pub left_with : SpecTree → ℕ → OpRef → Option TypeTree → Place → Slot → Locals → Code
+left_with spec me op None place Unset locals = finished me op Unset locals
+left_with spec me op None place (Held v) locals = fault TypeFault place
+left_with spec me op (Some declared) place Unset locals = fault NoReturn place
+left_with spec me op (Some declared) place (Held v) locals =
+    typed spec no_nest (Some op.class) declared place (finished_with me op) v locals
 
 -- What follows the body: its result is tested, and an exit that left it asks to finish first. The locals are the caller's again.
 abbrev pub ended : SpecTree → ℕ → OpRef → Option TypeTree → Place → Locals → Flow → Code
 ended spec me op result place locals (gave slot inner) = fault Undefined place
-ended spec me op result place locals (next inner) = finished me op place locals (tested spec op.class result Unset)
-ended spec me op result place locals (returned slot inner) = finished me op place locals (tested spec op.class result slot)
+ended spec me op result place locals (next inner) = left_with spec me op result place Unset locals
+ended spec me op result place locals (returned slot inner) = left_with spec me op result place slot locals
 ended spec me op result place locals (exited v from inner) = ask (noted (Fin me op)) (λ _. finish (exited v from locals))
 
 -- the body, on the object, with no locals but its own; one that is not there is undefined at the call

@@ -1,9 +1,10 @@
 -- Where a node stands: whose names it sees.
-use Rattle.std.specs.Prelude.{ℕ, List, map, reverse, Option, Some, None, option_map}
+use Rattle.std.specs.Prelude.{ℕ, suc, List, map, reverse, Option, Some, None, option_map}
 use Rattle.std.specs.List.{find}
 use Rattle.vdm_kinds.specs.NameList.{io}
 use Rattle.vdm_kinds.specs.declared.member.VarRef.{VarRef}
 use Rattle.vdm_kinds.specs.declared.name.Name.{Name}
+use Rattle.vdm_kinds.specs.declared.place.Place.{Place}
 use Rattle.vdm_values.specs.declared.slot.Slot.{Slot}
 use Rattle.vdm_values.specs.declared.slot.Slot.TheVariants.{Held as Holds}
 use Rattle.abstract_syntax.specs.Classes.{is_same_name}
@@ -45,6 +46,28 @@ pub record Held : Type 0 where
 abbrev pub slot_held : Held → VarRef → Option Slot
 slot_held held var = option_map (λ (v : VarRef × Slot). v.1) (find (λ (v : VarRef × Slot). is_same_variable var v.0) held.variables)
 
+-- ---- tests of types
+
+-- inside of which tests of invariants of types a node stands
+pub record Nest : Type 0 where
+  -- how many of them are being tested round it
+  pub depth : ℕ
+  -- where the outermost of these tests is made, if that is known
+  pub test : Option Place
+
+-- inside of none
+abbrev pub no_nest : Nest
+no_nest = record { depth = 0; test = None }
+
+-- where a fault stands that would stand at this place: inside of a test it stands where the outermost test is made
+abbrev pub outermost : Option Place → Place → Place
+outermost None place = place
+outermost (Some test) place = test
+
+-- inside of one test more, which is made at the place
+abbrev pub deeper : Nest → Place → Nest
+deeper nest place = record { depth = suc nest.depth; test = Some (outermost nest.test place) }
+
 -- ---- environments
 
 -- what stays the same from one node of a body to the next
@@ -57,8 +80,8 @@ pub record Here : Type 0 where
   pub me : Option ℕ
   -- what is held, in a predicate or an instance invariant
   pub held : Option Held
-  -- how many invariants of types are being tested round the node
-  pub depth : ℕ
+  -- the tests of types round the node
+  pub nest : Nest
 
 pub record Env : Type 0 where
   pub here : Here
@@ -69,18 +92,18 @@ at here locals = record { here = here; locals = locals }
 
 -- the expression of a run: of no class and no object
 abbrev pub outside : Here
-outside = record { scope = None; own = None; me = None; held = None; depth = 0 }
+outside = record { scope = None; own = None; me = None; held = None; nest = no_nest }
 
--- the functions, class values and initialisers of a class, which name nothing of an object, inside of so many tests of invariants of types
-abbrev pub inside_class : Name → ℕ → Here
-inside_class class depth = record { scope = Some class; own = None; me = None; held = None; depth = depth }
+-- the functions, class values, initialisers and invariants of types of a class, which name nothing of an object
+abbrev pub inside_class : Name → Nest → Here
+inside_class class nest = record { scope = Some class; own = None; me = None; held = None; nest = nest }
 
 abbrev pub initialising : Name → Here
-initialising class = inside_class class 0
+initialising class = inside_class class no_nest
 
 -- the body of an operation of a class, on an object and its class
 abbrev pub inside : ℕ → Name → Name → Here
-inside me own class = record { scope = Some class; own = Some own; me = Some me; held = None; depth = 0 }
+inside me own class = record { scope = Some class; own = Some own; me = Some me; held = None; nest = no_nest }
 
 -- the class by which the names of types are found: that of `IO` where the node stands in none
 abbrev pub type_scope : Option Name → Name

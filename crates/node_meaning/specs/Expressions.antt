@@ -83,8 +83,8 @@ use Rattle.value_operators.specs.Outcomes.{sized}
 use Rattle.plans.specs.Plans.{become, part}
 use Rattle.node_meaning.specs.Calls.{Wanted, a_value, given}
 use Rattle.node_meaning.specs.Choosing.{collects, for_each, for_some, for_one, the_one, takes_first, choosing}
-use Rattle.node_meaning.specs.Envs.{Locals, Held, slot_held, Here, at, local_named, result_name}
-use Rattle.node_meaning.specs.Fitting.{fit_answer, fitting_in, typed_maybe}
+use Rattle.node_meaning.specs.Envs.{Locals, Nest, Held, slot_held, Here, at, local_named, result_name}
+use Rattle.node_meaning.specs.Fitting.{as_answer, fit_then, fitting_in, typed_maybe}
 use Rattle.node_meaning.specs.Functions.{application_of, class_value}
 use Rattle.node_meaning.specs.Matching.{decided, meets}
 use Rattle.node_meaning.specs.Names.{function_in, operation_in, operation_reached, own_reached, value_in, variable_in}
@@ -120,7 +120,7 @@ read_found setting here place (Some var) locals = read_held setting place var he
 
 -- what a name means in a class: a class value, or a variable
 abbrev pub member_value : Setting → Here → Place → Option Name → Name → Option VarRef → Locals → Code
-member_value setting here place scope name (Some ref) locals = class_value setting.spec ref place here.depth locals
+member_value setting here place scope name (Some ref) locals = class_value setting.spec ref place here.nest locals
 member_value setting here place scope name None locals = read_found setting here place (variable_in setting.spec scope name) locals
 
 abbrev pub value_named : Setting → Here → Place → Option Name → Name → Locals → Code
@@ -298,13 +298,13 @@ abbrev pub defined : SpecTree → Here → Place → ℕ → DefinedTrees → Ex
 defined spec here place count no_defined body locals = within here count body locals
 defined spec here place count (one_defined pattern declared tree more) body locals =
     evaluated here locals tree place
-    (typed_maybe spec here.scope declared place (meets spec here place pattern (defined spec here place count more body) (no_match place)))
+    (typed_maybe spec here.nest here.scope declared place (meets spec here place pattern (defined spec here place count more body) (no_match place)))
 
 -- ---- tests of types
 
 -- whether a value fits a type
-abbrev pub fit_value : SpecTree → Option Name → TypeTree → Place → ValueTree → Locals → Code
-fit_value spec scope t place v locals = value_or_fault place (fit_answer (fitting_in spec scope t v)) locals
+abbrev pub fit_value : SpecTree → Nest → Option Name → TypeTree → Place → ValueTree → Locals → Code
+fit_value spec nest scope t place v locals = fit_then spec nest place (as_answer locals) (fitting_in spec scope t v)
 
 -- ---- all kinds
 
@@ -334,14 +334,14 @@ expr_plan setting here locals (sequence_comprehension item pattern set condition
 expr_plan setting here locals (make_tuple parts place) = strict here a_tuple place parts locals
 expr_plan setting here locals (make_token inner place) = strict here a_token place (one_expr inner no_exprs) locals
 expr_plan setting here locals (make_record t arguments place) =
-    collected here place arguments [] (record_made setting.spec here.scope t place) locals
+    collected here place arguments [] (record_made setting.spec here.nest here.scope t place) locals
 expr_plan setting here locals (modify_record target changes place) =
-    collected here place (one_expr target (field_exprs changes)) [] (record_changed setting.spec (field_names changes) place) locals
-expr_plan setting here locals (is_of_type tree t place) = evaluated here locals tree place (fit_value setting.spec here.scope t place)
+    collected here place (one_expr target (field_exprs changes)) [] (record_changed setting.spec here.nest (field_names changes) place) locals
+expr_plan setting here locals (is_of_type tree t place) = evaluated here locals tree place (fit_value setting.spec here.nest here.scope t place)
 expr_plan setting here locals (is_of_named t tree place) =
-    evaluated here locals tree place (fit_value setting.spec here.scope (named_type t place) place)
+    evaluated here locals tree place (fit_value setting.spec here.nest here.scope (named_type t place) place)
 expr_plan setting here locals (is_of_basic basic tree place) =
-    evaluated here locals tree place (fit_value setting.spec here.scope (basic_type basic place) place)
+    evaluated here locals tree place (fit_value setting.spec here.nest here.scope (basic_type basic place) place)
 expr_plan setting here locals (create class class_place arguments place) = created_with setting arguments class place locals
 expr_plan setting here locals (apply head arguments place) = application setting here head arguments place a_value locals
 expr_plan setting here locals (select target name name_place place) = evaluated here locals target place (selected setting place name)

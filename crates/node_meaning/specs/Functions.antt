@@ -1,5 +1,5 @@
 -- Applications of functions, and class values: a class value is evaluated where it is named, like a function without parameters.
-use Rattle.std.specs.Prelude.{ℕ, Bool, true, false, List, [], ◌∷◌, ◌++◌, Option, Some, None}
+use Rattle.std.specs.Prelude.{Bool, true, false, List, [], ◌∷◌, ◌++◌, Option, Some, None}
 use Rattle.std.specs.List.{flat_map}
 use Rattle.vdm_kinds.specs.declared.member.OpRef.{OpRef}
 use Rattle.vdm_kinds.specs.declared.member.VarRef.{VarRef}
@@ -12,8 +12,8 @@ use Rattle.abstract_syntax.specs.Types.{TypeTree}
 use Rattle.abstract_syntax.specs.Expressions.{ExprTree, ExprTrees}
 use Rattle.abstract_syntax.specs.Classes.{Body, written, ValueDefTree, FunctionTree, SpecTree}
 use Rattle.pattern_meaning.specs.Brackets.{given_in}
-use Rattle.node_meaning.specs.Envs.{Locals, Here, inside_class, result_name}
-use Rattle.node_meaning.specs.Fitting.{arguments_fault, typed, typed_maybe, unless_placed}
+use Rattle.node_meaning.specs.Envs.{Locals, Nest, Here, inside_class, result_name}
+use Rattle.node_meaning.specs.Fitting.{arguments_typed, fitted_maybe, typed}
 use Rattle.node_meaning.specs.Matching.{decided, exprs_of, met}
 use Rattle.node_meaning.specs.Names.{function_definition, value_definition}
 use Rattle.node_meaning.specs.Strict.{collected}
@@ -21,17 +21,17 @@ use Rattle.node_meaning.specs.Tasks.{Code, fault, value, evaluated}
 
 -- ---- applications
 
--- An application that is being evaluated: the function and its class, the place of the application, how many invariants of types are
--- being tested round it, and the locals of the node, which the function does not see.
+-- An application that is being evaluated: the function and its class, the place of the application, the tests of types round it, and the
+-- locals of the node, which the function does not see.
 pub record Applying : Type 0 where
   pub class : Name
   pub function : FunctionTree
   pub place : Place
-  pub depth : ℕ
+  pub nest : Nest
   pub outer : Locals
 
 abbrev pub body_here : Applying → Here
-body_here a = inside_class a.class a.depth
+body_here a = inside_class a.class a.nest
 
 -- whether `post` holds of the result, and then the locals of the node again
 abbrev pub post_decided : Applying → ValueTree → Bool → Locals → Code
@@ -44,7 +44,7 @@ post_of a (Some post) v inner = decided (body_here a) (inner ++ (result_name, He
 
 -- the result is tested, and then `post` follows
 abbrev pub result_given : SpecTree → Applying → ValueTree → Locals → Code
-result_given spec a v inner = typed spec (Some a.class) a.function.result_type a.place (post_of a a.function.post) v inner
+result_given spec a v inner = typed spec a.nest (Some a.class) a.function.result_type a.place (post_of a a.function.post) v inner
 
 -- a function that is not specified is undefined at its application
 abbrev pub body_of : SpecTree → Applying → Body ExprTree → Locals → Code
@@ -67,36 +67,36 @@ bound spec a vs given inner =
 abbrev pub binds : SpecTree → Applying → List ValueTree → Code
 binds spec a vs = collected (body_here a) a.place (exprs_of (flat_map given_in a.function.patterns)) [] (bound spec a vs) []
 
+-- a function of a class begins, where the node at the place has these locals
+abbrev pub begun : SpecTree → Name → FunctionTree → Place → Nest → List ValueTree → Locals → Code
+begun spec class f place nest vs locals =
+    binds spec (record { class = class; function = f; place = place; nest = nest; outer = locals }) vs
+
 -- the arguments are tested first, each at its own place
-abbrev pub applied_to : SpecTree → OpRef → Option FunctionTree → Place → ℕ → ExprTrees → List ValueTree → Locals → Code
-applied_to spec ref None place depth arguments vs locals = fault TypeFault place
-applied_to spec ref (Some f) place depth arguments vs locals =
-    unless_placed (arguments_fault spec (Some ref.class) f.parameters arguments vs)
-    (binds spec (record { class = ref.class; function = f; place = place; depth = depth; outer = locals }) vs)
+abbrev pub applied_to : SpecTree → OpRef → Option FunctionTree → Place → Nest → ExprTrees → List ValueTree → Locals → Code
+applied_to spec ref None place nest arguments vs locals = fault TypeFault place
+applied_to spec ref (Some f) place nest arguments vs locals =
+    arguments_typed spec nest (Some ref.class) f.parameters arguments vs (begun spec ref.class f place nest vs) locals
 
 -- behind the values of the arguments
-abbrev pub applied : SpecTree → OpRef → Place → ℕ → ExprTrees → List ValueTree → Locals → Code
-applied spec ref place depth arguments vs locals = applied_to spec ref (function_definition spec ref) place depth arguments vs locals
+abbrev pub applied : SpecTree → OpRef → Place → Nest → ExprTrees → List ValueTree → Locals → Code
+applied spec ref place nest arguments vs locals = applied_to spec ref (function_definition spec ref) place nest arguments vs locals
 
 -- the arguments of a function, and then the function
 abbrev pub application_of : SpecTree → Here → OpRef → ExprTrees → Place → Locals → Code
 application_of spec here ref arguments place locals =
-    collected here place arguments [] (applied spec ref place here.depth arguments) locals
+    collected here place arguments [] (applied spec ref place here.nest arguments) locals
 
 -- ---- class values
 
--- the locals of the node again
-abbrev pub kept_outer : Locals → ValueTree → Locals → Code
-kept_outer outer v inner = value v outer
+-- a class value of a class is tested where it is named, among the locals of the node again
+abbrev pub value_given : SpecTree → Name → Option TypeTree → Place → Nest → Locals → ValueTree → Locals → Code
+value_given spec class declared place nest outer v inner = fitted_maybe spec nest (Some class) declared place v outer
 
--- a class value of a class, which is tested where it is named
-abbrev pub value_given : SpecTree → Name → Option TypeTree → Place → Locals → ValueTree → Locals → Code
-value_given spec class declared place outer v inner = typed_maybe spec (Some class) declared place (kept_outer outer) v inner
+abbrev pub class_value_of : SpecTree → Name → Option ValueDefTree → Place → Nest → Locals → Code
+class_value_of spec class None place nest locals = fault Undefined place
+class_value_of spec class (Some d) place nest locals =
+    evaluated (inside_class class nest) [] d.value place (value_given spec class d.declared place nest locals)
 
-abbrev pub class_value_of : SpecTree → Name → Option ValueDefTree → Place → ℕ → Locals → Code
-class_value_of spec class None place depth locals = fault Undefined place
-class_value_of spec class (Some d) place depth locals =
-    evaluated (inside_class class depth) [] d.value place (value_given spec class d.declared place locals)
-
-abbrev pub class_value : SpecTree → VarRef → Place → ℕ → Locals → Code
-class_value spec ref place depth locals = class_value_of spec ref.class (value_definition spec ref) place depth locals
+abbrev pub class_value : SpecTree → VarRef → Place → Nest → Locals → Code
+class_value spec ref place nest locals = class_value_of spec ref.class (value_definition spec ref) place nest locals

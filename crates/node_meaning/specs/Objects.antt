@@ -16,17 +16,20 @@ use Rattle.plans.specs.Plans.{finish, ask, part}
 use Rattle.node_meaning.specs.Envs.{Locals, at, initialising}
 use Rattle.node_meaning.specs.Names.{variable_definition}
 use Rattle.node_meaning.specs.Tasks.{expr_in, Flow, gave, next, returned, exited, noted, Code, fault, value}
-use Rattle.node_meaning.specs.Fitting.{slots_fault, unless_fault}
+use Rattle.node_meaning.specs.Fitting.{slots_typed}
 
 -- the object that was made
 abbrev pub created : Name → Place → Locals → Answer → Code
 created class place locals (Object n) = value (object n class) locals
 created class place locals _ = fault Undefined place
 
+abbrev pub object_asked : Name → Place → List Slot → Locals → Code
+object_asked class place slots locals = ask (noted (New class slots)) (created class place locals)
+
 -- once all initialisers are evaluated their types are tested, and then the object is asked for
 abbrev pub make_object : SpecTree → Name → Place → Locals → List VarRef → List Slot → Code
 make_object spec class place locals vars slots =
-    unless_fault place (slots_fault spec vars slots) (ask (noted (New class slots)) (created class place locals))
+    slots_typed spec place vars slots (object_asked class place slots) locals
 
 -- the slot of one variable behind others: what its initialiser gives. The locals are again those of the node that makes the object.
 abbrev pub initial_value : Place → Locals → (List Slot → Code) → List Slot → Flow → Code

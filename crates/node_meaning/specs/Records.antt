@@ -4,7 +4,6 @@ use Rattle.std.specs.Option.{option_and_then}
 use Rattle.vdm_kinds.specs.declared.name.Name.{Name}
 use Rattle.vdm_kinds.specs.declared.name_at.TypeName.{TypeName}
 use Rattle.vdm_kinds.specs.declared.place.Place.{Place}
-use Rattle.vdm_kinds.specs.declared.run_fault.RunFault.{RunFault}
 use Rattle.vdm_kinds.specs.declared.run_fault.RunFault.TheVariants.{TypeFault, Undefined}
 use Rattle.abstract_syntax.specs.Values.{ValueTree, ValueTrees, record_of, value_trees, value_list}
 use Rattle.abstract_syntax.specs.Expressions.{ExprTrees, no_exprs, one_expr, FieldValueTrees, no_field_values, one_field_value}
@@ -12,9 +11,9 @@ use Rattle.abstract_syntax.specs.Classes.{FieldTree, TypeBody, same_as, with_fie
 use Rattle.member_meaning.specs.TypeRanks.{finder, type_rank}
 use Rattle.pattern_meaning.specs.RecordTypes.{RecordType, stands_for}
 use Rattle.value_operators.specs.Outcomes.{Outcome, sized}
-use Rattle.node_meaning.specs.Envs.{Locals, type_scope}
-use Rattle.node_meaning.specs.Fitting.{first_of, type_fault}
-use Rattle.node_meaning.specs.Tasks.{Code, value_or_fault}
+use Rattle.node_meaning.specs.Envs.{Locals, Nest, type_scope}
+use Rattle.node_meaning.specs.Fitting.{typed}
+use Rattle.node_meaning.specs.Tasks.{Code, fault, value_or_fault}
 
 -- ---- the fields of a record type
 
@@ -32,29 +31,30 @@ record_type spec scope t = stands_for (finder spec) (type_rank spec) (type_scope
 
 -- ---- `mk_T`
 
--- each value is tested against the type of its field, in order; there are as many values as fields
-abbrev pub fields_fault : SpecTree → Name → List FieldTree → List ValueTree → Option RunFault
-fields_fault spec class [] [] = None
-fields_fault spec class (field ∷ fields) (v ∷ vs) = first_of (type_fault spec (Some class) field.declared v) (fields_fault spec class fields vs)
-fields_fault spec class _ _ = Some TypeFault
+-- Each value is tested against the type of its field, in order, at the place of the node. There are as many values as fields.
+abbrev pub fields_typed : SpecTree → Nest → Name → Place → List FieldTree → List ValueTree → (Locals → Code) → Locals → Code
+fields_typed spec nest class place [] [] further locals = further locals
+fields_typed spec nest class place (field ∷ fields) (v ∷ vs) further locals =
+    typed spec nest (Some class) field.declared place (λ fitting_v after. fields_typed spec nest class place fields vs further after) v locals
+fields_typed spec nest class place _ _ further locals = fault TypeFault place
 
-abbrev pub unless_refused : Option RunFault → Outcome → Outcome
-unless_refused None outcome = outcome
-unless_refused (Some kind) outcome = Err kind
+-- the record of a class and a name with these values
+abbrev pub record_value : Name → Name → Place → List ValueTree → Locals → Code
+record_value class name place vs locals = value_or_fault place (sized (record_of class name (value_trees vs))) locals
 
 -- the record of a type with these fields; the invariant of the type itself is not tested
-abbrev pub record_with : SpecTree → Name → Name → Option (List FieldTree) → List ValueTree → Outcome
-record_with spec class name None vs = Err Undefined
-record_with spec class name (Some fields) vs =
-    unless_refused (fields_fault spec class fields vs) (sized (record_of class name (value_trees vs)))
+abbrev pub record_with : SpecTree → Nest → Name → Name → Place → Option (List FieldTree) → List ValueTree → Locals → Code
+record_with spec nest class name place None vs locals = fault Undefined place
+record_with spec nest class name place (Some fields) vs locals =
+    fields_typed spec nest class place fields vs (record_value class name place vs) locals
 
-abbrev pub record_of_type : SpecTree → Option RecordType → List ValueTree → Outcome
-record_of_type spec None vs = Err Undefined
-record_of_type spec (Some r) vs = record_with spec r.class r.name (fields_of spec r.class r.name) vs
+abbrev pub record_of_type : SpecTree → Nest → Place → Option RecordType → List ValueTree → Locals → Code
+record_of_type spec nest place None vs locals = fault Undefined place
+record_of_type spec nest place (Some r) vs locals = record_with spec nest r.class r.name place (fields_of spec r.class r.name) vs locals
 
 -- behind the values of the fields
-abbrev pub record_made : SpecTree → Option Name → TypeName → Place → List ValueTree → Locals → Code
-record_made spec scope t place vs locals = value_or_fault place (record_of_type spec (record_type spec scope t) vs) locals
+abbrev pub record_made : SpecTree → Nest → Option Name → TypeName → Place → List ValueTree → Locals → Code
+record_made spec nest scope t place vs locals = record_of_type spec nest place (record_type spec scope t) vs locals
 
 -- ---- fields
 
@@ -86,21 +86,20 @@ with_fields_named fields (name ∷ names) (v ∷ vs) ws = option_and_then (with_
 with_fields_named fields _ _ ws = None
 
 -- all fields of what comes of it are tested
-abbrev pub tested_again : SpecTree → Name → Name → List FieldTree → Option (List ValueTree) → Outcome
-tested_again spec class type fields None = Err TypeFault
-tested_again spec class type fields (Some vs) = record_with spec class type (Some fields) vs
+abbrev pub tested_again : SpecTree → Nest → Name → Name → Place → List FieldTree → Option (List ValueTree) → Locals → Code
+tested_again spec nest class type place fields None locals = fault TypeFault place
+tested_again spec nest class type place fields (Some vs) locals = record_with spec nest class type place (Some fields) vs locals
 
-abbrev pub changed_record : SpecTree → Name → Name → Option (List FieldTree) → List Name → List ValueTree → List ValueTree → Outcome
-changed_record spec class type None names vs ws = Err TypeFault
-changed_record spec class type (Some fields) names vs ws = tested_again spec class type fields (with_fields_named fields names vs ws)
+abbrev pub changed_record : SpecTree → Nest → Name → Name → Place → Option (List FieldTree) → List Name → List ValueTree → List ValueTree → Locals → Code
+changed_record spec nest class type place None names vs ws locals = fault TypeFault place
+changed_record spec nest class type place (Some fields) names vs ws locals =
+    tested_again spec nest class type place fields (with_fields_named fields names vs ws) locals
 
 -- a record, and the values for the fields of these names; what is no record is of another type
-abbrev pub changed : SpecTree → List Name → List ValueTree → Outcome
-changed spec names (record_of class type values ∷ vs) = changed_record spec class type (fields_of spec class type) names vs (value_list values)
-changed spec names _ = Err TypeFault
-
-abbrev pub record_changed : SpecTree → List Name → Place → List ValueTree → Locals → Code
-record_changed spec names place vs locals = value_or_fault place (changed spec names vs) locals
+abbrev pub record_changed : SpecTree → Nest → List Name → Place → List ValueTree → Locals → Code
+record_changed spec nest names place (record_of class type values ∷ vs) locals =
+    changed_record spec nest class type place (fields_of spec class type) names vs (value_list values) locals
+record_changed spec nest names place _ locals = fault TypeFault place
 
 -- the names of fields, and the expressions for them
 abbrev pub field_names : FieldValueTrees → List Name

@@ -26,10 +26,10 @@ use Rattle.run_journal.specs.declared.answer.Answer.TheVariants.{Refused}
 use Rattle.run_journal.specs.declared.question.Question.TheVariants.{Write}
 use Rattle.run_journal.specs.declared.write.Write.{Write as Pair}
 use Rattle.plans.specs.Plans.{finish, ask, part}
-use Rattle.node_meaning.specs.Envs.{Locals, Here, at}
+use Rattle.node_meaning.specs.Envs.{Locals, no_nest, Here, at}
 use Rattle.node_meaning.specs.Names.{variable_in, variable_definition}
 use Rattle.node_meaning.specs.Tasks.{call_in, stmt_in, Flow, gave, next, returned, exited, noted, Code, fault, evaluated}
-use Rattle.node_meaning.specs.Fitting.{type_fault, unless_fault}
+use Rattle.node_meaning.specs.Fitting.{typed}
 
 -- ---- assignments
 
@@ -41,12 +41,14 @@ written place locals _ = finish (next locals)
 abbrev pub write_of : VarRef → ValueTree → Pair
 write_of var v = record { var = var; value = v }
 
--- the value is tested against the variable's type, and then written in one step
+abbrev pub write_asked : ℕ → VarRef → Place → ValueTree → Locals → Code
+write_asked me var place v locals = ask (noted (Write me (write_of var v ∷ []))) (written place locals)
+
+-- the value is tested against the variable's type, and then written in one step; no statement stands inside a test of a type
 abbrev pub write_typed : SpecTree → ℕ → VarRef → Option VariableTree → Place → ValueTree → Locals → Code
 write_typed spec me var None place v locals = fault Undefined place
 write_typed spec me var (Some definition) place v locals =
-    unless_fault place (type_fault spec (Some var.class) definition.declared v)
-    (ask (noted (Write me (write_of var v ∷ []))) (written place locals))
+    typed spec no_nest (Some var.class) definition.declared place (write_asked me var place) v locals
 
 abbrev pub write_found : SpecTree → Option ℕ → Option VarRef → Place → ValueTree → Locals → Code
 write_found spec (Some me) (Some var) place v locals = write_typed spec me var (variable_definition spec var) place v locals

@@ -6,14 +6,18 @@ use Rattle.node_meaning.specs.Envs.{Locals, Here}
 use Rattle.node_meaning.specs.Expressions.{application, expr_plan}
 use Rattle.node_meaning.specs.Needs.{Setting}
 use Rattle.node_meaning.specs.Statements.{stmt_plan}
-use Rattle.node_meaning.specs.Tasks.{Task, expr_in, call_in, stmt_in, Code, fault}
+use Rattle.node_meaning.specs.Tasks.{Task, expr_in, call_in, stmt_in, env_of, Code, fault, placed}
 
 -- a call whose value is not wanted: only an application is one
 abbrev pub bare_call : Setting → Here → Locals → ExprTree → Code
 bare_call setting here locals (apply head arguments place) = application setting here head arguments place no_value locals
 bare_call setting here locals tree = fault TypeFault (expr_place tree)
 
+abbrev pub node_plan : Setting → Task → Code
+node_plan setting (expr_in env tree) = expr_plan setting env.here env.locals tree
+node_plan setting (call_in env tree) = bare_call setting env.here env.locals tree
+node_plan setting (stmt_in env statement) = stmt_plan setting.spec env.here env.locals statement
+
+-- with its faults where they stand
 abbrev pub plan_of : Setting → Task → Code
-plan_of setting (expr_in env tree) = expr_plan setting env.here env.locals tree
-plan_of setting (call_in env tree) = bare_call setting env.here env.locals tree
-plan_of setting (stmt_in env statement) = stmt_plan setting.spec env.here env.locals statement
+plan_of setting task = placed (env_of task).here.nest (node_plan setting task)

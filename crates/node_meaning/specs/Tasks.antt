@@ -13,8 +13,8 @@ use Rattle.abstract_syntax.specs.Expressions.{ExprTree, expr_place}
 use Rattle.abstract_syntax.specs.Statements.{StmtTree, stmt_place}
 use Rattle.run_journal.specs.declared.answer.Answer.{Answer}
 use Rattle.run_journal.specs.declared.question.Question.{Question}
-use Rattle.plans.specs.Plans.{Plan, finish, fail, part}
-use Rattle.node_meaning.specs.Envs.{Locals, Here, Env, at}
+use Rattle.plans.specs.Plans.{Plan, finish, fail, ask, part, become}
+use Rattle.node_meaning.specs.Envs.{Locals, Nest, outermost, Here, Env, at}
 use Rattle.node_meaning.specs.Faults.{Fault, fault_at}
 
 -- what is evaluated: a node, which costs one unit
@@ -58,11 +58,29 @@ pub data Query : Type 0 where
 abbrev pub Code : Type 0
 Code = Plan Task Flow Query Answer Fault
 
+abbrev pub env_of : Task → Env
+env_of (expr_in env tree) = env
+env_of (call_in env tree) = env
+env_of (stmt_in env tree) = env
+
+abbrev pub task_place : Task → Place
+task_place (expr_in env tree) = expr_place tree
+task_place (call_in env tree) = expr_place tree
+task_place (stmt_in env tree) = stmt_place tree
+
+-- ---- where faults stand
+
+-- inside of tests of invariants of types each fault stands where the outermost test is made
+abbrev pub placed : Nest → Code → Code
+placed nest (finish flow) = finish flow
+placed nest (fail f) = fail (record f { place = outermost nest.test f.place })
+placed nest (ask query further) = ask query (λ answer. placed nest (further answer))
+placed nest (part task further) = part task (λ flow. placed nest (further flow))
+placed nest (become task) = become task
+
 -- a node that finds no unit left fails at its place
 abbrev pub spent : Task → Fault
-spent (expr_in env tree) = fault_at StepLimit (expr_place tree)
-spent (call_in env tree) = fault_at StepLimit (expr_place tree)
-spent (stmt_in env tree) = fault_at StepLimit (stmt_place tree)
+spent task = fault_at StepLimit (outermost (env_of task).here.nest.test (task_place task))
 
 -- ---- plans that each kind of node is made of
 

@@ -2,6 +2,7 @@ pub mod NotedCalls
 pub mod NotedChoices
 pub mod NotedFunctions
 pub mod NotedNodes
+pub mod NotedRecords
 pub mod NotedTasks
 pub mod Noting
 pub mod OnlyAsked

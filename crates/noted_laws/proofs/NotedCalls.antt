@@ -1,10 +1,9 @@
 -- Calls and new objects: what a thread does for them it asks by questions that entries answer.
-use Rattle.std.proofs.Common.{◌∷◌, ◌++◌, [], List, Option, Some, None, Result, Ok, Err, ℕ}
+use Rattle.std.proofs.Common.{◌∷◌, ◌++◌, [], List, Option, Some, None, ℕ}
 use Rattle.vdm_kinds.specs.declared.member.OpRef.{OpRef}
 use Rattle.vdm_kinds.specs.declared.member.VarRef.{VarRef}
 use Rattle.vdm_kinds.specs.declared.name.Name.{Name}
 use Rattle.vdm_kinds.specs.declared.place.Place.{Place}
-use Rattle.vdm_kinds.specs.declared.run_fault.RunFault.{RunFault}
 use Rattle.vdm_values.specs.declared.slot.Slot.{Slot}
 use Rattle.vdm_values.specs.declared.slot.Slot.TheVariants.{Unset, Held}
 use Rattle.abstract_syntax.specs.Types.{TypeTree}
@@ -13,18 +12,15 @@ use Rattle.abstract_syntax.specs.Statements.{StmtTree}
 use Rattle.abstract_syntax.specs.Classes.{Body, written, OperationTree, SpecTree}
 use Rattle.run_journal.specs.declared.answer.Answer.{Answer}
 use Rattle.run_journal.specs.declared.answer.Answer.TheVariants.{Inner, Object}
-use Rattle.run_journal.specs.declared.question.Question.TheVariants.{New}
-use Rattle.plans.specs.Plans.{ask}
-use Rattle.node_meaning.specs.Calls.{Wanted, a_value, no_value, given_slot, given, finished, tested, ended, begun, activated, called}
-use Rattle.node_meaning.specs.Envs.{Locals}
-use Rattle.node_meaning.specs.Fitting.{slots_fault}
+use Rattle.node_meaning.specs.Calls.{Wanted, a_value, no_value, given_slot, given, finished_with, left_with, ended, begun, activated, called}
+use Rattle.node_meaning.specs.Envs.{Locals, no_nest}
 use Rattle.node_meaning.specs.Names.{operation_definition, variable_definition, variables_of}
 use Rattle.node_meaning.specs.Needs.{asked, questions_of}
-use Rattle.node_meaning.specs.Objects.{created, initial_of, initial_then, initial_value, initialise, make_object, new_object}
-use Rattle.node_meaning.specs.Tasks.{Code, Flow, gave, next, returned, exited, Need, reads, calls, creates, prints, tells_time, noted}
+use Rattle.node_meaning.specs.Objects.{created, initial_of, initial_then, initial_value, initialise, make_object, new_object, object_asked}
+use Rattle.node_meaning.specs.Tasks.{Code, Flow, gave, next, returned, exited, Need, reads, calls, creates, prints, tells_time}
 use Rattle.vdm_meaning.specs.Main.{of_thread}
 use Rattle.noted_laws.proofs.OnlyAsked.{bind-asks}
-use Rattle.noted_laws.proofs.Noting.{IsNoted, Notes, notes-unless_fault}
+use Rattle.noted_laws.proofs.Noting.{IsNoted, Notes, notes-slots_typed, notes-typed}
 
 -- ---- calls
 
@@ -40,14 +36,16 @@ notes-given wanted place (returned slot locals) = tt
 notes-given wanted place (exited v from locals) = tt
 
 module _ (spec : SpecTree) (me : ℕ) (own : Name) (op : OpRef) (place : Place) (locals : Locals) where
-  notes-finished : (result : Result Slot RunFault) → Notes (finished me op place locals result)
-  notes-finished (Err kind) = tt
-  notes-finished (Ok slot) = (tt, λ a. tt)
+  notes-left_with : (declared : Option TypeTree) (slot : Slot) → Notes (left_with spec me op declared place slot locals)
+  notes-left_with None Unset = (tt, λ a. tt)
+  notes-left_with None (Held v) = tt
+  notes-left_with (Some declared) Unset = tt
+  notes-left_with (Some declared) (Held v) = notes-typed spec no_nest (Some op.class) declared place (finished_with me op) (λ result after. (tt, λ a. tt)) v locals
 
   notes-ended : (declared : Option TypeTree) (flow : Flow) → Notes (ended spec me op declared place locals flow)
   notes-ended declared (gave slot inner) = tt
-  notes-ended declared (next inner) = notes-finished (tested spec op.class declared Unset)
-  notes-ended declared (returned slot inner) = notes-finished (tested spec op.class declared slot)
+  notes-ended declared (next inner) = notes-left_with declared Unset
+  notes-ended declared (returned slot inner) = notes-left_with declared slot
   notes-ended declared (exited v from inner) = (tt, λ a. tt)
 
   notes-begun : (declared : Option TypeTree) (body : Body StmtTree) → Notes (begun spec me own op declared place locals body)
@@ -65,13 +63,13 @@ module _ (spec : SpecTree) (me : ℕ) (own : Name) (op : OpRef) (place : Place) 
 -- ---- new objects
 
 module _ (spec : SpecTree) (class : Name) (place : Place) (locals : Locals) where
-  notes-created : (answer : Answer) → Notes (created class place locals answer)
-  notes-created (Object n) = tt
-  notes-created _ = tt
+  notes-created : (after : Locals) (answer : Answer) → Notes (created class place after answer)
+  notes-created after (Object n) = tt
+  notes-created after _ = tt
 
   notes-make_object : (vars : List VarRef) (slots : List Slot) → Notes (make_object spec class place locals vars slots)
   notes-make_object vars slots =
-      notes-unless_fault place (slots_fault spec vars slots) (ask (noted (New class slots)) (created class place locals)) (tt, notes-created)
+      notes-slots_typed spec place vars slots (object_asked class place slots) (λ after. (tt, notes-created after)) locals
 
   notes-initial_value : (rest : List Slot → Code) → ((slots : List Slot) → Notes (rest slots)) → (slots : List Slot) (flow : Flow) → Notes (initial_value place locals rest slots flow)
   notes-initial_value rest h slots (gave (Held v) inner) = h (slots ++ Held v ∷ [])

@@ -21,17 +21,18 @@ use Rattle.node_meaning.specs.Calls.{Wanted, a_value, given}
 use Rattle.node_meaning.specs.Choosing.{collects, for_each, for_some, for_one, the_one, takes_first}
 use Rattle.node_meaning.specs.Envs.{Locals, Held, slot_held, Here, local_named, result_name}
 use Rattle.node_meaning.specs.Expressions.{slot_value, held_value, read_on, read_held, read_found, member_value, value_named, name_value, read_member, selected, looked_up, called_with, no_such_call, called_on, arguments_of, looked_up_in, field_applied, called_through, called_or_looked_up, applied_or_called, name_applied, qualified_applied, application, created_with, decided_by, truth, unless_decided, right_truth, joined_by, prefixed_by, branch, branches, within, no_match, others_of, patterns_met, cases_met, defined, fit_value, expr_plan}
-use Rattle.node_meaning.specs.Fitting.{fit_answer, fitting_in, typed_maybe}
+use Rattle.node_meaning.specs.Fitting.{typed_maybe}
 use Rattle.node_meaning.specs.Matching.{meets}
 use Rattle.node_meaning.specs.Names.{function_in, operation_in, operation_reached, own_reached, value_in, variable_in}
-use Rattle.node_meaning.specs.Records.{changed, field_exprs, field_names, field_value, record_changed, record_made, record_of_type, record_type}
+use Rattle.node_meaning.specs.Records.{field_exprs, field_names, field_value, record_changed, record_made, record_type}
 use Rattle.node_meaning.specs.Strict.{one_operand, two_operands, a_set, a_sequence, a_tuple, a_map, a_token, a_subsequence, a_component, collected, make, maplet_exprs}
 use Rattle.node_meaning.specs.Tasks.{Flow, reads, calls, creates, Code, value, with_value, evaluated}
 use Rattle.vdm_meaning.specs.Main.{of_thread}
-use Rattle.noted_laws.proofs.Noting.{Notes, Onward, OnwardWith, notes-collected, notes-cut_to, notes-decided, notes-evaluated, notes-make, notes-meets, notes-strict, notes-typed_maybe, notes-value_or_fault, notes-with_value}
+use Rattle.noted_laws.proofs.Noting.{Notes, Onward, OnwardWith, notes-collected, notes-cut_to, notes-decided, notes-evaluated, notes-fit_value, notes-make, notes-meets, notes-strict, notes-typed_maybe, notes-value_or_fault, notes-with_value}
 use Rattle.noted_laws.proofs.NotedCalls.{notes-asked, notes-given}
 use Rattle.noted_laws.proofs.NotedChoices.{notes-choosing}
 use Rattle.noted_laws.proofs.NotedFunctions.{notes-application_of, notes-class_value}
+use Rattle.noted_laws.proofs.NotedRecords.{notes-record_changed, notes-record_of_type}
 
 module _ (spec : SpecTree) (here : Here) (place : Place) where
   -- ---- names
@@ -60,7 +61,7 @@ module _ (spec : SpecTree) (here : Here) (place : Place) where
   notes-read_found (Some var) locals = notes-read_held var here.me here.held locals
 
   notes-member_value : (scope : Option Name) (name : Name) (found : Option VarRef) → Onward (member_value (of_thread spec) here place scope name found)
-  notes-member_value scope name (Some ref) locals = notes-class_value spec ref place here.depth locals
+  notes-member_value scope name (Some ref) locals = notes-class_value spec ref place here.nest locals
   notes-member_value scope name None locals = notes-read_found (variable_in spec scope name) locals
 
   notes-value_named : (scope : Option Name) (name : Name) → Onward (value_named (of_thread spec) here place scope name)
@@ -192,16 +193,15 @@ module _ (spec : SpecTree) (here : Here) (place : Place) where
   notes-defined count no_defined body locals = notes-within count body locals
   notes-defined count (one_defined pattern declared tree more) body locals =
       let goes = meets spec here place pattern (defined spec here place count more body) (no_match place) in
-      notes-evaluated here locals tree place (typed_maybe spec here.scope declared place goes)
-      (notes-typed_maybe spec here.scope declared place goes
+      notes-evaluated here locals tree place (typed_maybe spec here.nest here.scope declared place goes)
+      (notes-typed_maybe spec here.nest here.scope declared place goes
       (notes-meets spec here place pattern (defined spec here place count more body) (no_match place) (notes-defined count more body) (λ after. tt)))
 
 -- ---- all kinds of expressions
 
 module _ (spec : SpecTree) (here : Here) (locals : Locals) where
-  notes-fit : (tree : ExprTree) (t : TypeTree) (place : Place) → Notes (evaluated here locals tree place (fit_value spec here.scope t place))
-  notes-fit tree t place =
-      notes-evaluated here locals tree place (fit_value spec here.scope t place) (λ v after. notes-value_or_fault place (fit_answer (fitting_in spec here.scope t v)) after)
+  notes-fit : (tree : ExprTree) (t : TypeTree) (place : Place) → Notes (evaluated here locals tree place (fit_value spec here.nest here.scope t place))
+  notes-fit tree t place = notes-evaluated here locals tree place (fit_value spec here.nest here.scope t place) (notes-fit_value spec here.nest here.scope t place)
 
   pub notes-expr : (tree : ExprTree) → Notes (expr_plan (of_thread spec) here locals tree)
   notes-expr (literal tree place) = notes-value_or_fault place (sized (literal_value tree)) locals
@@ -224,10 +224,10 @@ module _ (spec : SpecTree) (here : Here) (locals : Locals) where
   notes-expr (make_tuple parts place) = notes-strict here a_tuple place parts locals
   notes-expr (make_token inner place) = notes-strict here a_token place (one_expr inner no_exprs) locals
   notes-expr (make_record t arguments place) =
-      notes-collected here place arguments [] (record_made spec here.scope t place) (λ vs. notes-value_or_fault place (record_of_type spec (record_type spec here.scope t) vs)) locals
+      notes-collected here place arguments [] (record_made spec here.nest here.scope t place) (notes-record_of_type spec here.nest place (record_type spec here.scope t)) locals
   notes-expr (modify_record target changes place) =
-      notes-collected here place (one_expr target (field_exprs changes)) [] (record_changed spec (field_names changes) place)
-      (λ vs. notes-value_or_fault place (changed spec (field_names changes) vs)) locals
+      notes-collected here place (one_expr target (field_exprs changes)) [] (record_changed spec here.nest (field_names changes) place)
+      (notes-record_changed spec here.nest place (field_names changes)) locals
   notes-expr (is_of_type tree t place) = notes-fit tree t place
   notes-expr (is_of_named t tree place) = notes-fit tree (named_type t place) place
   notes-expr (is_of_basic basic tree place) = notes-fit tree (basic_type basic place) place

@@ -9,19 +9,17 @@ use Rattle.abstract_syntax.specs.Statements.{TargetTree, variable, variable_of_c
 use Rattle.abstract_syntax.specs.Classes.{VariableTree, SpecTree}
 use Rattle.run_journal.specs.declared.answer.Answer.{Answer}
 use Rattle.run_journal.specs.declared.answer.Answer.TheVariants.{Refused}
-use Rattle.run_journal.specs.declared.question.Question.TheVariants.{Write}
-use Rattle.plans.specs.Plans.{ask, part, run, meaning}
+use Rattle.plans.specs.Plans.{finish, fail, ask, part, become, run, meaning}
 use Rattle.vdm_legal.specs.ClassObjects.{classes_of}
 use Rattle.node_meaning.specs.Calls.{no_value}
-use Rattle.node_meaning.specs.Envs.{Locals, Here}
-use Rattle.node_meaning.specs.Fitting.{type_fault}
+use Rattle.node_meaning.specs.Envs.{Locals, Nest, no_nest, Here}
 use Rattle.node_meaning.specs.Names.{variable_in, variable_definition}
-use Rattle.node_meaning.specs.Statements.{written, write_of, write_typed, write_found, assigned, called, unless_ended, sequence, return_value, returned_of, stmt_plan}
-use Rattle.node_meaning.specs.TaskPlans.{bare_call, plan_of}
-use Rattle.node_meaning.specs.Tasks.{Task, expr_in, call_in, stmt_in, Flow, gave, next, returned, exited, noted, Code, spent}
+use Rattle.node_meaning.specs.Statements.{written, write_asked, write_typed, write_found, assigned, called, unless_ended, sequence, return_value, returned_of, stmt_plan}
+use Rattle.node_meaning.specs.TaskPlans.{bare_call, node_plan, plan_of}
+use Rattle.node_meaning.specs.Tasks.{Task, expr_in, call_in, stmt_in, Flow, gave, next, returned, exited, Code, env_of, placed, spent}
 use Rattle.vdm_meaning.specs.Main.{ended, whole_expression, make_class_objects, main_plan, of_thread}
 use Rattle.noted_laws.proofs.OnlyAsked.{NeedsOnly, needs-only}
-use Rattle.noted_laws.proofs.Noting.{IsNoted, Notes, Onward, OnwardWith, notes-evaluated, notes-unless_fault}
+use Rattle.noted_laws.proofs.Noting.{IsNoted, Notes, Onward, OnwardWith, notes-evaluated, notes-typed}
 use Rattle.noted_laws.proofs.NotedNodes.{notes-application, notes-expr}
 
 -- ---- statements
@@ -34,7 +32,7 @@ module _ (spec : SpecTree) (here : Here) where
   notes-write_typed : (me : ℕ) (var : VarRef) (found : Option VariableTree) (place : Place) → OnwardWith (write_typed spec me var found place)
   notes-write_typed me var None place v locals = tt
   notes-write_typed me var (Some definition) place v locals =
-      notes-unless_fault place (type_fault spec (Some var.class) definition.declared v) (ask (noted (Write me (write_of var v ∷ []))) (written place locals)) (tt, notes-written place locals)
+      notes-typed spec no_nest (Some var.class) definition.declared place (write_asked me var place) (λ fitting_v after. (tt, notes-written place after)) v locals
 
   notes-write_found : (me : Option ℕ) (var : Option VarRef) (place : Place) → OnwardWith (write_found spec me var place)
   notes-write_found (Some me) (Some var) place v locals = notes-write_typed me var (variable_definition spec var) place v locals
@@ -75,15 +73,26 @@ module _ (spec : SpecTree) (here : Here) where
 
 -- ---- tasks, and main
 
+-- wherever the faults stand
+notes-placed : (nest : Nest) (code : Code) → Notes code → Notes (placed nest code)
+notes-placed nest (finish flow) h = tt
+notes-placed nest (fail f) h = tt
+notes-placed nest (ask query further) h = (h.0, λ a. notes-placed nest (further a) (h.1 a))
+notes-placed nest (part task further) h = λ flow. notes-placed nest (further flow) (h flow)
+notes-placed nest (become task) h = tt
+
 module _ (spec : SpecTree) where
   notes-bare_call : (here : Here) (locals : Locals) (tree : ExprTree) → Notes (bare_call (of_thread spec) here locals tree)
   notes-bare_call here locals (apply head arguments place) = notes-application spec here place no_value head arguments locals
   notes-bare_call here locals tree = tt
 
+  notes-node : (task : Task) → Notes (node_plan (of_thread spec) task)
+  notes-node (expr_in env tree) = notes-expr spec env.here env.locals tree
+  notes-node (call_in env tree) = notes-bare_call env.here env.locals tree
+  notes-node (stmt_in env statement) = notes-statement spec env.here env.locals statement
+
   notes-task : (task : Task) → Notes (plan_of (of_thread spec) task)
-  notes-task (expr_in env tree) = notes-expr spec env.here env.locals tree
-  notes-task (call_in env tree) = notes-bare_call env.here env.locals tree
-  notes-task (stmt_in env statement) = notes-statement spec env.here env.locals statement
+  notes-task task = notes-placed (env_of task).here.nest (node_plan (of_thread spec) task) (notes-node task)
 
   notes-ended : (flow : Flow) → Notes (ended flow)
   notes-ended (gave slot locals) = (tt, λ a. tt)

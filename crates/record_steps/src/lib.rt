@@ -12,6 +12,7 @@ mod types;
 
 pub use changing::record_changed;
 pub use fields::field_value;
+pub use made::field_fits;
 pub use making::record_made;
 pub use nodes::{make_record, modify_record};
 pub use selecting::selected;

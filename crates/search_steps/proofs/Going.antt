@@ -12,9 +12,9 @@ use Rattle.eval_data.specs.Parts.{chooser_of, patterns_at, search_of}
 use Rattle.eval_data.specs.Steps.{choose_behind, code_of}
 use Rattle.eval_data.specs.declared.search.Search.{Search}
 use Rattle.eval_data.specs.declared.step.Step.{Step}
-use Rattle.match_steps.specs.Attempts.{attempted}
-use Rattle.match_steps.specs.declared.attempt.Attempt.{Attempt}
-use Rattle.match_steps.specs.declared.attempt.Attempt.TheVariants.{Matched, Missed, Fault}
+use Rattle.bind_steps.specs.Attempts.{attempted}
+use Rattle.bind_steps.specs.declared.attempt.Attempt.{Attempt}
+use Rattle.bind_steps.specs.declared.attempt.Attempt.TheVariants.{Matched, Missed, Fault}
 use Rattle.search_steps.specs.Outcomes.{choices_from, found_of, turn_code}
 
 -- what the patterns come to with the first choice

@@ -14,7 +14,7 @@ use Rattle.node_meaning.specs.Envs.{Locals, at}
 use Rattle.node_meaning.specs.Tasks.{expr_in, with_value}
 use Rattle.eval_data.specs.declared.search.Sets.{Sets}
 use Rattle.eval_data.specs.declared.search.Source.{Source}
-use Rattle.eval_data.specs.Parts.{here_of, chooser_of, patterns_at, source_of}
+use Rattle.eval_data.specs.Parts.{here_of, chooser_of, patterns_at, source_of, sources_from}
 use Rattle.eval_data.specs.Steps.{source_in, source_at, sets_behind}
 use Rattle.search_steps.specs.Gathering.{sets_from}
 
@@ -41,6 +41,13 @@ set_next spec sets source locals is =
     ∙ ap (λ (left : List (ExprTree × ℕ)). sets_of (here_of sets.here) sets.place left sets.lists.items
     (behind_sets spec (here_of sets.here) sets.place (patterns_at sets.patterns.items) (chooser_of sets.chooser)) locals)
     (sym (left_from (map source_of sets.sources.items) sets.at (source_of source) (seen sets.sources.items sets.at source is)))
+
+-- the only set
+pub only_set : (spec : SpecTree) (sets : Sets) (source : Source) (locals : Locals) → sets.sources.items ≡ source ∷ [] → sets.at ≡ 0 → sets.lists.items ≡ []
+    → sets_from spec sets locals
+    ≡ sets_of (here_of sets.here) sets.place (source_of source ∷ []) [] (behind_sets spec (here_of sets.here) sets.place (patterns_at sets.patterns.items) (chooser_of sets.chooser)) locals
+only_set spec sets source locals is first none = λ i.
+    sets_of (here_of sets.here) sets.place (sources_from (is i) (first i)) (none i) (behind_sets spec (here_of sets.here) sets.place (patterns_at sets.patterns.items) (chooser_of sets.chooser)) locals
 
 none_left : {X : Type 0} (xs : List X) (i : ℕ) → slice_get xs i ≡ None → drop i xs ≡ []
 none_left [] zero none = refl

@@ -10,8 +10,8 @@ use Rattle.node_meaning.specs.Tasks.{Code, fault, value}
 use Rattle.eval_data.specs.declared.search.Search.{Search}
 use Rattle.eval_data.specs.Parts.{chooser_of, search_of, first_choice}
 use Rattle.eval_data.specs.Steps.{choose_behind}
-use Rattle.match_steps.specs.declared.attempt.Attempt.{Attempt}
-use Rattle.match_steps.specs.declared.attempt.Attempt.TheVariants.{Matched as Matches, Missed, Fault as Faulty}
+use Rattle.bind_steps.specs.declared.attempt.Attempt.{Attempt}
+use Rattle.bind_steps.specs.declared.attempt.Attempt.TheVariants.{Matched as Matches, Missed, Fault as Faulty}
 use Rattle.search_steps.specs.declared.found.Found.{Found}
 use Rattle.search_steps.specs.declared.found.Found.TheVariants.{Exhausted, Matched, Fault}
 

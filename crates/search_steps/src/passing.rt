@@ -5,8 +5,8 @@ ghost use Rattle.spec_table.specs.Tables.{table_spec};
 ghost use Rattle.search_steps.specs.Outcomes.{choices_from, found_code, found_of, turn_code};
 
 use crate::found::Found;
+use bind_steps::{Attempt, bound_or};
 use eval_data::Search;
-use match_steps::{Attempt, bound_or};
 use spec_table::ClassTable;
 use std::alloc::Global;
 use vdm_kinds::{Name, OutOfMemory};

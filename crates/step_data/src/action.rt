@@ -9,8 +9,9 @@ ghost use Rattle.step_data.specs.Actions.{action_code, of_thread, height};
 use crate::asking::Asking;
 use crate::task::Task;
 use crate::waiting::Waiting;
-use eval_data::{After, Flow, Need, Step};
+use eval_data::{After, Flow, Frame, Here, Need, Step};
 use vdm_kinds::{Place, RunFault};
+use vdm_tree::Expr;
 use vdm_values::Value;
 
 /// What a thread does next: a plan of the meaning, as data. The locals are the thread's.
@@ -26,7 +27,9 @@ pub enum Action<'t> {
     /// A part, and what is done with what comes of it.
     Part(Task<'t>, Waiting<'t>),
     /// A part in the node's stead.
-    Become(Task<'t>),
+    Become(Here<'t>, &'t Expr),
+    /// A part of the test of a value, what is done with what comes of it, and what is done with what comes of the test.
+    Test(Here<'t>, &'t Expr, Frame<'t>, Waiting<'t>),
     /// Something is needed for the node at the place; and what is done with what comes of it.
     Need(Need, Place, After),
 }
@@ -43,7 +46,10 @@ impl<'t> Action<'t> {
             Step::Part(here, tree, frame) => {
                 Action::Part(Task::Expr(here, tree), Waiting::Expr(frame))
             }
-            Step::Become(here, tree) => Action::Become(Task::Expr(here, tree)),
+            Step::Become(here, tree) => Action::Become(here, tree),
+            Step::Test(here, tree, inner, outer) => {
+                Action::Test(here, tree, inner, Waiting::Expr(outer))
+            }
             Step::Need(need, place, after) => Action::Need(need, place, after),
         }
     }

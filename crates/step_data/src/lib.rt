@@ -4,6 +4,7 @@
 mod action;
 mod asking;
 mod call;
+mod level;
 mod making;
 mod task;
 mod waiting;
@@ -11,6 +12,7 @@ mod waiting;
 pub use action::Action;
 pub use asking::Asking;
 pub use call::Call;
+pub use level::Level;
 pub use making::Making;
 pub use task::Task;
 pub use waiting::Waiting;

@@ -1,9 +1,10 @@
-// A new object whose initialisers are being evaluated.
+// A new object whose initialisers are being evaluated, or whose slots are being tested.
 
 use vdm_kinds::{Name, Place, VarRef};
 use vdm_values::Slot;
 
-/// A new object whose initialisers are being evaluated: the slots of its first variables, and the locals of the node that makes it.
+/// A new object whose initialisers are being evaluated, or whose slots are being tested: the slots of its first variables, and the
+/// locals of the node that makes it, while these are put aside.
 #[derive(Drop)]
 pub struct Making<'t> {
     pub class: Name,

@@ -1,13 +1,12 @@
 // What is evaluated.
 
 ghost use Rattle.std.specs.Prelude.{◌≡◌};
-ghost use Rattle.vdm_kinds.specs.declared.run_fault.RunFault.TheVariants.{StepLimit};
 ghost use Rattle.node_meaning.specs.Envs.{Locals};
-ghost use Rattle.node_meaning.specs.Faults.{fault_at};
-ghost use Rattle.node_meaning.specs.Tasks.{spent};
+ghost use Rattle.node_meaning.specs.Tasks.{env_of, task_place};
+ghost use Rattle.eval_data.specs.Parts.{nest_of};
 ghost use Rattle.step_data.specs.Parts.{task_of};
 
-use eval_data::Here;
+use eval_data::{Here, Nest};
 use vdm_kinds::Place;
 use vdm_tree::{Expr, Stmt};
 
@@ -22,9 +21,19 @@ pub enum Task<'t> {
 }
 
 impl<'t> Task<'t> {
-    /// Where the node fails that finds no unit left.
+    /// The tests of types round the node.
+    pub fn nest(self) -> Nest
+        ensures { (locals : Locals) → nest_of result ≡ (env_of (task_of self.entry locals)).here.nest }
+    {
+        match self {
+            Task::Expr(here, _) | Task::Call(here, _) => here.nest,
+            Task::Stmt(here, _) => here.nest,
+        }
+    }
+
+    /// Where the node stands.
     pub fn place(self) -> Place
-        ensures { (locals : Locals) → fault_at StepLimit result ≡ spent (task_of self.entry locals) }
+        ensures { (locals : Locals) → result ≡ task_place (task_of self.entry locals) }
     {
         match self {
             Task::Expr(_, tree) | Task::Call(_, tree) => tree.place(),

@@ -3,7 +3,7 @@
 use crate::call::Call;
 use crate::making::Making;
 use eval_data::{After, Frame, Here};
-use vdm_kinds::{Name, Place};
+use vdm_kinds::{Name, OpRef, Place, VarRef};
 use vdm_tree::{Stmt, Target};
 use vdm_values::Slot;
 
@@ -26,6 +26,13 @@ pub enum Waiting<'t> {
     Body(Call<'t>, Vec<(Name, Slot)>),
     /// It is what an initialiser gives.
     Initial(Box<Making<'t>>),
+    /// It fits the type of the variable of the object of this number, and is written, by the statement at the place.
+    Write(u32, VarRef, Place),
+    /// It fits the type of the result of the operation, called on the object of this number: the call is to end. The place is that of
+    /// the call.
+    Leave(u32, OpRef, Place),
+    /// It fits the type of its variable: so many slots are tested, the others follow, and then the object is made.
+    Slots(Box<Making<'t>>, usize),
     /// Behind the whole expression, which main ends with.
     End,
 }

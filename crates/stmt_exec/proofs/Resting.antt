@@ -5,17 +5,17 @@ use Rattle.run_journal.specs.declared.question.Question.{Question}
 use Rattle.run_journal.specs.declared.question.Question.TheVariants.{Fail}
 use Rattle.abstract_syntax.specs.Classes.{SpecTree}
 use Rattle.abstract_syntax.specs.Values.{ValueTree}
-use Rattle.plans.specs.Plans.{Outcome, gives, faults, needs, onward, finish, fail, ask, part, become, bind, run, meaning}
+use Rattle.plans.specs.Plans.{Outcome, gives, faults, needs, onward, finish, fail, ask, part, become, bind, meaning}
 use Rattle.plans.proofs.Binding.{run-bind}
 use Rattle.plans.proofs.Levels.{meaning-suc, meaning-zero}
 use Rattle.vdm_kinds.specs.declared.place.Place.{Place}
 use Rattle.vdm_kinds.specs.declared.halt.OutOfMemory.{OutOfMemory}
 use Rattle.vdm_kinds.specs.declared.run_fault.RunFault.{RunFault}
-use Rattle.vdm_kinds.specs.declared.run_fault.RunFault.TheVariants.{StepLimit, UncaughtExit}
+use Rattle.vdm_kinds.specs.declared.run_fault.RunFault.TheVariants.{UncaughtExit}
 use Rattle.vdm_values.specs.declared.slot.Slot.TheVariants.{Unset, Held}
-use Rattle.node_meaning.specs.Envs.{Locals}
+use Rattle.node_meaning.specs.Envs.{Locals, Nest as MeantNest, no_nest}
 use Rattle.node_meaning.specs.Faults.{Fault, fault_at}
-use Rattle.node_meaning.specs.Tasks.{Task, Flow, Query, noted, Code, fault, spent}
+use Rattle.node_meaning.specs.Tasks.{Task, Flow, Query, noted, Code, placed, spent}
 use Rattle.node_meaning.specs.TaskPlans.{plan_of}
 use Rattle.vdm_meaning.specs.Main.{asks, over, standing_of, uncaught}
 use Rattle.step_data.specs.declared.waiting.Waiting.{Waiting}
@@ -24,144 +24,180 @@ use Rattle.stmt_exec.specs.declared.machine.Rest.TheVariants.{Asks, Fails, Exits
 use Rattle.step_data.specs.declared.asking.Asking.{Asking}
 use Rattle.stmt_exec.specs.declared.machine.Machine.{Machine}
 use Rattle.spec_table.specs.Tables.{table_spec}
+use Rattle.step_data.specs.declared.level.Level.{Level}
+use Rattle.step_data.specs.Actions.{of_thread, waiting_then, level_then, question_of, answered_of, action_code}
+use Rattle.eval_data.specs.declared.nest.Nest.{Nest}
+use Rattle.eval_data.specs.Parts.{nest_of}
 use Rattle.step_data.specs.declared.action.Action.{Action}
-use Rattle.step_data.specs.declared.task.Task.{Task as Entered}
-use Rattle.step_data.specs.Parts.{task_of}
-use Rattle.step_data.specs.Actions.{of_thread, waiting_then, question_of, answered_of, action_code}
-use Rattle.stmt_exec.specs.Standing.{comes_to, unwind, stands, rest_at, rest}
+use Rattle.stmt_exec.specs.Standing.{comes_to, unwind, stands, code_inside, rest_at, rest}
+
+-- ---- where faults stand
+
+-- outside of all tests they stand where they stand
+pub placed-none : (code : Code) → placed no_nest code ≡ code
+placed-none (finish flow) = refl
+placed-none (fail f) = refl
+placed-none (ask query further) = λ i. ask query (λ answer. placed-none (further answer) i)
+placed-none (part task further) = λ i. part task (λ flow. placed-none (further flow) i)
+placed-none (become task) = refl
+
+-- a plan with another on its result is placed as both are
+pub placed-bind : (nest : MeantNest) (code : Code) (next : Flow → Code) → placed nest (bind code next) ≡ bind (placed nest code) (λ flow. placed nest (next flow))
+placed-bind nest (finish flow) next = refl
+placed-bind nest (fail f) next = refl
+placed-bind nest (ask query further) next = λ i. ask query (λ answer. placed-bind nest (further answer) next i)
+placed-bind nest (part task further) next = λ i. part task (λ flow. placed-bind nest (further flow) next i)
+placed-bind nest (become task) next = refl
 
 module _ (spec : SpecTree) where
-  unwind-needs : (waiting : List Waiting) (q : Query) → unwind spec waiting (needs q) ≡ needs q
+  unwind-needs : (levels : List Level) (q : Query) → unwind spec levels (needs q) ≡ needs q
   unwind-needs [] q = refl
-  unwind-needs (w ∷ waiting) q = ap (λ o. onward o (λ r. comes_to spec (waiting_then spec w r))) (unwind-needs waiting q)
+  unwind-needs (level ∷ levels) q = ap (λ o. onward o (λ r. comes_to spec (level_then spec level r))) (unwind-needs levels q)
 
-  unwind-faults : (waiting : List Waiting) (f : Fault) (answers : List Answer) → unwind spec waiting (faults f answers) ≡ faults f answers
+  unwind-faults : (levels : List Level) (f : Fault) (answers : List Answer) → unwind spec levels (faults f answers) ≡ faults f answers
   unwind-faults [] f answers = refl
-  unwind-faults (w ∷ waiting) f answers = ap (λ o. onward o (λ r. comes_to spec (waiting_then spec w r))) (unwind-faults waiting f answers)
+  unwind-faults (level ∷ levels) f answers = ap (λ o. onward o (λ r. comes_to spec (level_then spec level r))) (unwind-faults levels f answers)
 
   -- the innermost stands last
-  unwind-push : (waiting : List Waiting) (w : Waiting) (o : Outcome Flow Query Answer Fault)
-      → unwind spec (waiting ++ w ∷ []) o ≡ unwind spec waiting (onward o (λ r. comes_to spec (waiting_then spec w r)))
-  unwind-push [] w o = refl
-  unwind-push (first ∷ waiting) w o = ap (λ o. onward o (λ r. comes_to spec (waiting_then spec first r))) (unwind-push waiting w o)
+  unwind-push : (levels : List Level) (level : Level) (o : Outcome Flow Query Answer Fault)
+      → unwind spec (levels ++ level ∷ []) o ≡ unwind spec levels (onward o (λ r. comes_to spec (level_then spec level r)))
+  unwind-push [] level o = refl
+  unwind-push (first ∷ levels) level o = ap (λ o. onward o (λ r. comes_to spec (level_then spec first r))) (unwind-push levels level o)
 
   -- a question is asked whatever waits
-  pub asking-asks : (waiting : List Waiting) (fuel : ℕ) (q : Question) (next : Answer → Code) → stands spec waiting fuel (ask (noted q) next) [] ≡ asks q
-  asking-asks waiting fuel q next = ap standing_of (unwind-needs waiting (noted q))
+  pub asking-asks : (levels : List Level) (fuel : ℕ) (q : Question) (next : Answer → Code) → stands spec levels fuel (ask (noted q) next) [] ≡ asks q
+  asking-asks levels fuel q next = ap standing_of (unwind-needs levels (noted q))
 
   -- so is a fault, and behind the answer to that the thread is over
-  pub failing-asks : (waiting : List Waiting) (fuel : ℕ) (f : Fault) → stands spec waiting fuel (fail f) [] ≡ asks (Fail f.fault f.exit f.place)
-  failing-asks waiting fuel f = ap standing_of (unwind-faults waiting f [])
+  pub failing-asks : (levels : List Level) (fuel : ℕ) (f : Fault) → stands spec levels fuel (fail f) [] ≡ asks (Fail f.fault f.exit f.place)
+  failing-asks levels fuel f = ap standing_of (unwind-faults levels f [])
 
-  pub failed-over : (waiting : List Waiting) (fuel : ℕ) (f : Fault) (answer : Answer) (answers : List Answer) → stands spec waiting fuel (fail f) (answer ∷ answers) ≡ over
-  failed-over waiting fuel f answer answers = ap standing_of (unwind-faults waiting f (answer ∷ answers))
+  pub failed-over : (levels : List Level) (fuel : ℕ) (f : Fault) (answer : Answer) (answers : List Answer) → stands spec levels fuel (fail f) (answer ∷ answers) ≡ over
+  failed-over levels fuel f answer answers = ap standing_of (unwind-faults levels f (answer ∷ answers))
 
   -- a result goes to what waits innermost
-  pub finish-goes_on : (waiting : List Waiting) (fuel : ℕ) (w : Waiting) (flow : Flow) (answers : List Answer)
-      → stands spec waiting fuel (waiting_then spec w flow) answers ≡ stands spec (waiting ++ w ∷ []) fuel (finish flow) answers
-  finish-goes_on waiting fuel w flow answers = ap standing_of (sym (unwind-push waiting w (gives flow answers fuel)))
+  pub finish-goes_on : (levels : List Level) (fuel : ℕ) (level : Level) (flow : Flow) (answers : List Answer)
+      → stands spec levels fuel (level_then spec level flow) answers ≡ stands spec (levels ++ level ∷ []) fuel (finish flow) answers
+  finish-goes_on levels fuel level flow answers = ap standing_of (sym (unwind-push levels level (gives flow answers fuel)))
 
   -- a part is entered with its unit, where what follows it waits
-  pub part-enters : (waiting : List Waiting) (fuel : ℕ) (w : Waiting) (task : Task) (answers : List Answer)
-      → stands spec (waiting ++ w ∷ []) fuel (plan_of (of_thread spec) task) answers ≡ stands spec waiting (suc fuel) (part task (waiting_then spec w)) answers
-  part-enters waiting fuel w task answers =
-      ap standing_of (unwind-push waiting w (comes_to spec (plan_of (of_thread spec) task) answers fuel)
-      ∙ ap (λ o. unwind spec waiting (onward o (λ r. comes_to spec (waiting_then spec w r)))) (sym (meaning-suc (plan_of (of_thread spec)) spent task answers fuel)))
+  pub part-enters : (levels : List Level) (fuel : ℕ) (level : Level) (task : Task) (answers : List Answer)
+      → stands spec (levels ++ level ∷ []) fuel (plan_of (of_thread spec) task) answers ≡ stands spec levels (suc fuel) (part task (level_then spec level)) answers
+  part-enters levels fuel level task answers =
+      ap standing_of (unwind-push levels level (comes_to spec (plan_of (of_thread spec) task) answers fuel)
+      ∙ ap (λ o. unwind spec levels (onward o (λ r. comes_to spec (level_then spec level r)))) (sym (meaning-suc (plan_of (of_thread spec)) spent task answers fuel)))
 
   -- one in the stead of a node
-  pub become-enters : (waiting : List Waiting) (fuel : ℕ) (task : Task) (answers : List Answer)
-      → stands spec waiting fuel (plan_of (of_thread spec) task) answers ≡ stands spec waiting (suc fuel) (become task) answers
-  become-enters waiting fuel task answers =
-      ap (λ o. standing_of (unwind spec waiting o)) (sym (meaning-suc (plan_of (of_thread spec)) spent task answers fuel))
+  pub become-enters : (levels : List Level) (fuel : ℕ) (task : Task) (answers : List Answer)
+      → stands spec levels fuel (plan_of (of_thread spec) task) answers ≡ stands spec levels (suc fuel) (become task) answers
+  become-enters levels fuel task answers =
+      ap (λ o. standing_of (unwind spec levels o)) (sym (meaning-suc (plan_of (of_thread spec)) spent task answers fuel))
 
   -- without a unit they fail
-  pub part-spent : (waiting : List Waiting) (next : Flow → Code) (task : Task) (answers : List Answer)
-      → stands spec waiting 0 (fail (spent task)) answers ≡ stands spec waiting 0 (part task next) answers
-  part-spent waiting next task answers =
-      ap (λ o. standing_of (unwind spec waiting (onward o (λ r. comes_to spec (next r))))) (sym (meaning-zero (plan_of (of_thread spec)) spent task answers))
+  pub part-spent : (levels : List Level) (next : Flow → Code) (task : Task) (answers : List Answer)
+      → stands spec levels 0 (fail (spent task)) answers ≡ stands spec levels 0 (part task next) answers
+  part-spent levels next task answers =
+      ap (λ o. standing_of (unwind spec levels (onward o (λ r. comes_to spec (next r))))) (sym (meaning-zero (plan_of (of_thread spec)) spent task answers))
 
-  pub become-spent : (waiting : List Waiting) (task : Task) (answers : List Answer)
-      → stands spec waiting 0 (fail (spent task)) answers ≡ stands spec waiting 0 (become task) answers
-  become-spent waiting task answers =
-      ap (λ o. standing_of (unwind spec waiting o)) (sym (meaning-zero (plan_of (of_thread spec)) spent task answers))
+  pub become-spent : (levels : List Level) (task : Task) (answers : List Answer)
+      → stands spec levels 0 (fail (spent task)) answers ≡ stands spec levels 0 (become task) answers
+  become-spent levels task answers =
+      ap (λ o. standing_of (unwind spec levels o)) (sym (meaning-zero (plan_of (of_thread spec)) spent task answers))
 
   -- a plan with another on its result is followed where the other waits
-  pub bind-waits : (waiting : List Waiting) (fuel : ℕ) (w : Waiting) (code : Code) (answers : List Answer)
-      → stands spec (waiting ++ w ∷ []) fuel code answers ≡ stands spec waiting fuel (bind code (waiting_then spec w)) answers
-  bind-waits waiting fuel w code answers =
-      ap standing_of (unwind-push waiting w (comes_to spec code answers fuel)
-      ∙ ap (unwind spec waiting) (sym (run-bind (meaning (plan_of (of_thread spec)) spent) code (waiting_then spec w) answers fuel)))
+  pub bind-waits : (levels : List Level) (fuel : ℕ) (level : Level) (code : Code) (answers : List Answer)
+      → stands spec (levels ++ level ∷ []) fuel code answers ≡ stands spec levels fuel (bind code (level_then spec level)) answers
+  bind-waits levels fuel level code answers =
+      ap standing_of (unwind-push levels level (comes_to spec code answers fuel)
+      ∙ ap (unwind spec levels) (sym (run-bind (meaning (plan_of (of_thread spec)) spent) code (level_then spec level) answers fuel)))
 
   -- only a thread that is over is over
-  pub rest-over : (waiting : List Waiting) (locals : Locals) (fuel : ℕ) (r : Rest) → rest_at spec waiting locals fuel r [] ≡ over → r ≡ Over
-  rest-over waiting locals fuel (Asks asking) e = absurd (cc (e, asking-asks waiting fuel (question_of asking) (answered_of spec locals asking)))
-  rest-over waiting locals fuel (Fails kind place) e = absurd (cc (e, failing-asks waiting fuel (fault_at kind place)))
-  rest-over waiting locals fuel (Exits v place) e = absurd (cc (e, failing-asks waiting fuel (uncaught v place)))
-  rest-over waiting locals fuel Over e = refl
-  rest-over waiting locals fuel Spent e = absurd (cc e)
+  pub rest-over : (levels : List Level) (nest : Nest) (locals : Locals) (fuel : ℕ) (r : Rest) → rest_at spec levels nest locals fuel r [] ≡ over → r ≡ Over
+  rest-over levels nest locals fuel (Asks asking) e =
+      absurd (cc (e, asking-asks levels fuel (question_of asking) (λ answer. placed (nest_of nest) (answered_of spec locals asking answer))))
+  rest-over levels nest locals fuel (Fails kind place) e = absurd (cc (e, failing-asks levels fuel (fault_at kind place)))
+  rest-over levels nest locals fuel (Exits v place) e = absurd (cc (e, failing-asks levels fuel (uncaught v place)))
+  rest-over levels nest locals fuel Over e = refl
+  rest-over levels nest locals fuel Spent e = absurd (cc e)
 
 -- what a machine at rest asks
 pub at_rest-asks : (m : Machine) (asking : Asking) → m.rest ≡ Asks asking → rest m [] ≡ asks (question_of asking)
 at_rest-asks m asking e =
-    ap (λ r. rest_at (table_spec m.table.now) m.waiting.items m.locals.items m.fuel r []) e
-    ∙ asking-asks (table_spec m.table.now) m.waiting.items m.fuel (question_of asking) (answered_of (table_spec m.table.now) m.locals.items asking)
+    ap (λ r. rest_at (table_spec m.table.now) m.levels.items m.nest m.locals.items m.fuel r []) e
+    ∙ asking-asks (table_spec m.table.now) m.levels.items m.fuel (question_of asking)
+    (λ answer. placed (nest_of m.nest) (answered_of (table_spec m.table.now) m.locals.items asking answer))
 
 pub at_rest-fails : (m : Machine) (kind : RunFault) (place : Place) → m.rest ≡ Fails kind place → rest m [] ≡ asks (Fail kind Unset place)
 at_rest-fails m kind place e =
-    ap (λ r. rest_at (table_spec m.table.now) m.waiting.items m.locals.items m.fuel r []) e
-    ∙ failing-asks (table_spec m.table.now) m.waiting.items m.fuel (fault_at kind place)
+    ap (λ r. rest_at (table_spec m.table.now) m.levels.items m.nest m.locals.items m.fuel r []) e
+    ∙ failing-asks (table_spec m.table.now) m.levels.items m.fuel (fault_at kind place)
 
 pub at_rest-exits : (m : Machine) (v : ValueTree) (place : Place) → m.rest ≡ Exits v place → rest m [] ≡ asks (Fail UncaughtExit (Held v) place)
 at_rest-exits m v place e =
-    ap (λ r. rest_at (table_spec m.table.now) m.waiting.items m.locals.items m.fuel r []) e
-    ∙ failing-asks (table_spec m.table.now) m.waiting.items m.fuel (uncaught v place)
+    ap (λ r. rest_at (table_spec m.table.now) m.levels.items m.nest m.locals.items m.fuel r []) e
+    ∙ failing-asks (table_spec m.table.now) m.levels.items m.fuel (uncaught v place)
 
 -- behind the answer to its failure it is over
-pub failed : (spec : SpecTree) (waiting : List Waiting) (locals : Locals) (fuel : ℕ) (r : Rest) (kind : RunFault) (place : Place) (answer : Answer) (answers : List Answer)
-    → r ≡ Fails kind place → over ≡ rest_at spec waiting locals fuel r (answer ∷ answers)
-failed spec waiting locals fuel r kind place answer answers e = rw e (sym (failed-over spec waiting fuel (fault_at kind place) answer answers))
+pub failed : (spec : SpecTree) (levels : List Level) (nest : Nest) (locals : Locals) (fuel : ℕ) (r : Rest) (kind : RunFault) (place : Place) (answer : Answer) (answers : List Answer)
+    → r ≡ Fails kind place → over ≡ rest_at spec levels nest locals fuel r (answer ∷ answers)
+failed spec levels nest locals fuel r kind place answer answers e = rw e (sym (failed-over spec levels fuel (fault_at kind place) answer answers))
 
-pub exit_failed : (spec : SpecTree) (waiting : List Waiting) (locals : Locals) (fuel : ℕ) (r : Rest) (v : ValueTree) (place : Place) (answer : Answer) (answers : List Answer)
-    → r ≡ Exits v place → over ≡ rest_at spec waiting locals fuel r (answer ∷ answers)
-exit_failed spec waiting locals fuel r v place answer answers e = rw e (sym (failed-over spec waiting fuel (uncaught v place) answer answers))
+pub exit_failed : (spec : SpecTree) (levels : List Level) (nest : Nest) (locals : Locals) (fuel : ℕ) (r : Rest) (v : ValueTree) (place : Place) (answer : Answer) (answers : List Answer)
+    → r ≡ Exits v place → over ≡ rest_at spec levels nest locals fuel r (answer ∷ answers)
+exit_failed spec levels nest locals fuel r v place answer answers e = rw e (sym (failed-over spec levels fuel (uncaught v place) answer answers))
 
 -- ---- steps
 
 -- what a step came to, with the locals after it
-abbrev Comes : SpecTree → List Waiting → Locals → ℕ → Code → List Waiting → ℕ → Result Action OutOfMemory → Type 0
-Comes spec now locals left code waiting fuel r =
-    IfOk r (λ a. (answers : List Answer) → stands spec now left (action_code spec locals a) answers ≡ stands spec waiting fuel code answers)
+abbrev Comes : SpecTree → List Level → Nest → Locals → ℕ → Code → List Level → ℕ → Result Action OutOfMemory → Type 0
+Comes spec now nest locals left code levels fuel r =
+    IfOk r (λ a. (answers : List Answer) → stands spec now left (code_inside spec nest locals a) answers ≡ stands spec levels fuel code answers)
 
 -- a part whose action is known, where what follows it waits
-pub entered : (spec : SpecTree) (waiting now : List Waiting) (before after : Locals) (fuel left : ℕ) (w : Waiting) (task : Entered) (r : Result Action OutOfMemory)
-    → fuel ≡ suc left → now ≡ waiting ++ w ∷ []
-    → IfOk r (λ a. action_code spec after a ≡ plan_of (of_thread spec) (task_of task before))
-    → Comes spec now after left (part (task_of task before) (waiting_then spec w)) waiting fuel r
-entered spec waiting now before after fuel left w task (Ok a) e n h = λ answers. rw (e, n, h) (part-enters spec waiting left w (task_of task before) answers)
-entered spec waiting now before after fuel left w task (Err x) e n h = tt
+pub entered : (spec : SpecTree) (levels now : List Level) (nest : Nest) (after : Locals) (fuel left : ℕ) (level : Level) (task : Task) (r : Result Action OutOfMemory)
+    → fuel ≡ suc left → now ≡ levels ++ level ∷ []
+    → IfOk r (λ a. code_inside spec nest after a ≡ plan_of (of_thread spec) task)
+    → Comes spec now nest after left (part task (level_then spec level)) levels fuel r
+entered spec levels now nest after fuel left level task (Ok a) e n h = λ answers. rw (e, n, h) (part-enters spec levels left level task answers)
+entered spec levels now nest after fuel left level task (Err x) e n h = tt
 
-pub begun : (spec : SpecTree) (waiting : List Waiting) (before after : Locals) (fuel left : ℕ) (task : Entered) (r : Result Action OutOfMemory)
+pub begun : (spec : SpecTree) (levels : List Level) (nest : Nest) (after : Locals) (fuel left : ℕ) (task : Task) (r : Result Action OutOfMemory)
     → fuel ≡ suc left
-    → IfOk r (λ a. action_code spec after a ≡ plan_of (of_thread spec) (task_of task before))
-    → Comes spec waiting after left (become (task_of task before)) waiting fuel r
-begun spec waiting before after fuel left task (Ok a) e h = λ answers. rw (e, h) (become-enters spec waiting left (task_of task before) answers)
-begun spec waiting before after fuel left task (Err x) e h = tt
+    → IfOk r (λ a. code_inside spec nest after a ≡ plan_of (of_thread spec) task)
+    → Comes spec levels nest after left (become task) levels fuel r
+begun spec levels nest after fuel left task (Ok a) e h = λ answers. rw (e, h) (become-enters spec levels left task answers)
+begun spec levels nest after fuel left task (Err x) e h = tt
+
+-- a part of the test of a value, behind which two levels wait
+pub tests : (spec : SpecTree) (levels one now : List Level) (nest : Nest) (after : Locals) (fuel left : ℕ) (round : Nest) (inner outer : Waiting) (task : Task) (r : Result Action OutOfMemory)
+    → fuel ≡ suc left → one ≡ levels ++ record { nest = round; waiting = outer } ∷ [] → now ≡ one ++ record { nest = round; waiting = inner } ∷ []
+    → IfOk r (λ a. code_inside spec nest after a ≡ plan_of (of_thread spec) task)
+    → Comes spec now nest after left (placed (nest_of round) (bind (part task (waiting_then spec inner)) (waiting_then spec outer))) levels fuel r
+tests spec levels one now nest after fuel left round inner outer task (Ok a) e o n h = λ answers.
+    let one_waits : Level = record { nest = round; waiting = inner } in
+    let other_waits : Level = record { nest = round; waiting = outer } in
+    rw (e, n, o, h) (part-enters spec (levels ++ other_waits ∷ []) left one_waits task answers
+    ∙ bind-waits spec levels (suc left) other_waits (part task (level_then spec one_waits)) answers
+    ∙ ap (λ c. stands spec levels (suc left) c answers) (sym (placed-bind (nest_of round) (part task (waiting_then spec inner)) (waiting_then spec outer))))
+tests spec levels one now nest after fuel left round inner outer task (Err x) e o n h = tt
 
 -- one that finds no unit
-pub spent_fails : (spec : SpecTree) (waiting : List Waiting) (locals : Locals) (fuel : ℕ) (w : Waiting) (task : Entered) (place : Place) (answers : List Answer)
-    → fuel ≡ 0 → fault_at StepLimit place ≡ spent (task_of task locals)
-    → stands spec waiting fuel (fault StepLimit place) answers ≡ stands spec waiting fuel (part (task_of task locals) (waiting_then spec w)) answers
-spent_fails spec waiting locals fuel w task place answers e p = rw (e, p) (part-spent spec waiting (waiting_then spec w) (task_of task locals) answers)
+pub spent_fails : (spec : SpecTree) (levels : List Level) (fuel : ℕ) (task : Task) (next : Flow → Code) (code : Code) (answers : List Answer)
+    → fuel ≡ 0 → code ≡ fail (spent task)
+    → stands spec levels fuel code answers ≡ stands spec levels fuel (part task next) answers
+spent_fails spec levels fuel task next code answers e is = rw (e, is) (part-spent spec levels next task answers)
 
-pub spent_becomes : (spec : SpecTree) (waiting : List Waiting) (locals : Locals) (fuel : ℕ) (task : Entered) (place : Place) (answers : List Answer)
-    → fuel ≡ 0 → fault_at StepLimit place ≡ spent (task_of task locals)
-    → stands spec waiting fuel (fault StepLimit place) answers ≡ stands spec waiting fuel (become (task_of task locals)) answers
-spent_becomes spec waiting locals fuel task place answers e p = rw (e, p) (become-spent spec waiting (task_of task locals) answers)
+pub spent_becomes : (spec : SpecTree) (levels : List Level) (fuel : ℕ) (task : Task) (code : Code) (answers : List Answer)
+    → fuel ≡ 0 → code ≡ fail (spent task)
+    → stands spec levels fuel code answers ≡ stands spec levels fuel (become task) answers
+spent_becomes spec levels fuel task code answers e is = rw (e, is) (become-spent spec levels task answers)
 
 -- a need, behind which the node waits
-pub needing : (spec : SpecTree) (waiting now : List Waiting) (after : Locals) (fuel : ℕ) (w : Waiting) (code : Code) (r : Result Action OutOfMemory)
-    → now ≡ waiting ++ w ∷ []
+pub needing : (spec : SpecTree) (levels now : List Level) (after : Locals) (fuel : ℕ) (level : Level) (code : Code) (r : Result Action OutOfMemory)
+    → now ≡ levels ++ level ∷ []
     → IfOk r (λ a. action_code spec after a ≡ code)
-    → Comes spec now after fuel (bind code (waiting_then spec w)) waiting fuel r
-needing spec waiting now after fuel w code (Ok a) n h = λ answers. rw (n, h) (bind-waits spec waiting fuel w code answers)
-needing spec waiting now after fuel w code (Err x) n h = tt
+    → Comes spec now level.nest after fuel (placed (nest_of level.nest) (bind code (waiting_then spec level.waiting))) levels fuel r
+needing spec levels now after fuel level code (Ok a) n h = λ answers.
+    rw (n, h) (bind-waits spec levels fuel level (placed (nest_of level.nest) code) answers
+    ∙ ap (λ c. stands spec levels fuel c answers) (sym (placed-bind (nest_of level.nest) code (waiting_then spec level.waiting))))
+needing spec levels now after fuel level code (Err x) n h = tt

@@ -1,5 +1,5 @@
 -- Each action of the machine stands where it stood, and its load is no higher.
-use Rattle.std.proofs.Common.{◌≡◌, ◌≤◌, ◌<◌, ℕ, suc, ◌+◌, List, [], ◌∷◌, ◌++◌, Result, Ok, Err, IfOk, refl, ap, sym, ◌∙◌, arith}
+use Rattle.std.proofs.Common.{◌≡◌, ◌≤◌, ◌<◌, ℕ, suc, ◌+◌, List, [], ◌∷◌, ◌++◌, Result, Ok, Err, IfOk, refl, ap, arith}
 use Rattle.vdm_kinds.specs.declared.halt.OutOfMemory.{OutOfMemory}
 use Rattle.std.specs.Borrow.{Bor}
 use Rattle.run_journal.specs.declared.answer.Answer.{Answer}
@@ -7,45 +7,48 @@ use Rattle.abstract_syntax.specs.Classes.{SpecTree}
 use Rattle.abstract_syntax.specs.Expressions.{ExprTree}
 use Rattle.vdm_kinds.specs.declared.name.Name.{Name}
 use Rattle.plans.specs.Plans.{finish}
-use Rattle.node_meaning.specs.Envs.{Locals}
+use Rattle.node_meaning.specs.Tasks.{Code}
+use Rattle.node_meaning.specs.Envs.{Locals, no_nest}
 use Rattle.vdm_meaning.specs.Main.{over, main_code, make_class_objects}
 use Rattle.vdm_legal.specs.ClassObjects.{classes_of}
 use Rattle.spec_table.specs.declared.table.ClassTable.{ClassTable}
 use Rattle.spec_table.specs.Tables.{table_spec}
 use Rattle.eval_data.specs.declared.flow.Flow.{Flow}
-use Rattle.eval_data.specs.Parts.{flow_of}
+use Rattle.eval_data.specs.Parts.{flow_of, nest_of}
 use Rattle.stmt_exec.specs.declared.machine.Machine.{Machine}
 use Rattle.step_data.specs.declared.action.Action.{Action}
-use Rattle.step_data.specs.declared.action.Action.TheVariants.{Finish as Done, Fail, Uncaught, Ask, Part, Become, Need}
+use Rattle.step_data.specs.declared.action.Action.TheVariants.{Finish as Done, Fail, Uncaught, Ask, Part, Become, Test, Need}
+use Rattle.step_data.specs.declared.level.Level.{Level}
 use Rattle.step_data.specs.declared.waiting.Waiting.{Waiting}
-use Rattle.step_data.specs.declared.waiting.Waiting.TheVariants.{Expr, After, Called, Rest, Assign, Return, Body, Initial, End}
-use Rattle.step_data.specs.Actions.{waiting_then, action_code, height, busy, waiting_weight, main_expression}
-use Rattle.stmt_exec.specs.Standing.{stands, stands_with, load, waiting_load}
-use Rattle.stmt_exec.proofs.Resting.{finish-goes_on}
+use Rattle.step_data.specs.declared.waiting.Waiting.TheVariants.{Expr, After, Called, Rest, Assign, Return, Body, Initial, Write, Leave, Slots, End}
+use Rattle.step_data.specs.Actions.{level_then, action_code, height, busy, waiting_weight, main_expression}
+use Rattle.eval_data.specs.declared.nest.Nest.{Nest}
+use Rattle.stmt_exec.specs.Standing.{stands, code_inside, stands_with, load, waiting_load}
+use Rattle.stmt_exec.proofs.Resting.{finish-goes_on, placed-none}
 
 -- where the action is known
 pub stands-action : (m : Machine) (table : Bor ClassTable) (action known : Action) (answers : List Answer) → m.table ≡ table → action ≡ known
-    → stands (table_spec table.now) m.waiting.items m.fuel (action_code (table_spec table.now) m.locals.items known) answers ≡ stands_with m action answers
+    → stands (table_spec table.now) m.levels.items m.fuel (code_inside (table_spec table.now) m.nest m.locals.items known) answers ≡ stands_with m action answers
 stands-action m table action known answers e is = rw (← e, is) refl
 
 -- a result for which nothing waits ends the thread
-ends : (spec : SpecTree) (waiting : List Waiting) (locals : Locals) (fuel : ℕ) (flow : Flow) (answers : List Answer) → waiting ≡ [] → over ≡ stands spec waiting fuel (finish (flow_of flow locals)) answers
-ends spec waiting locals fuel flow answers none = rw none refl
+ends : (spec : SpecTree) (levels : List Level) (locals : Locals) (fuel : ℕ) (flow : Flow) (answers : List Answer) → levels ≡ [] → over ≡ stands spec levels fuel (finish (flow_of flow locals)) answers
+ends spec levels locals fuel flow answers none = rw none refl
 
-pub stands-end : (m : Machine) (action : Action) (flow : Flow) (answers : List Answer) → action ≡ Done flow → m.waiting.items ≡ [] → over ≡ stands_with m action answers
-stands-end m action flow answers is none = rw is (ends (table_spec m.table.now) m.waiting.items m.locals.items m.fuel flow answers none)
+pub stands-end : (m : Machine) (action : Action) (flow : Flow) (answers : List Answer) → action ≡ Done flow → m.levels.items ≡ [] → over ≡ stands_with m action answers
+stands-end m action flow answers is none = rw is (ends (table_spec m.table.now) m.levels.items m.locals.items m.fuel flow answers none)
 
 -- a result goes to what waits for it
-pub popped : (spec : SpecTree) (waiting left : List Waiting) (before after : Locals) (fuel : ℕ) (w : Waiting) (flow : Flow) (action next : Action) (answers : List Answer)
-    → waiting ≡ left ++ w ∷ [] → action ≡ Done flow → action_code spec after next ≡ waiting_then spec w (flow_of flow before)
-    → stands spec left fuel (action_code spec after next) answers ≡ stands spec waiting fuel (action_code spec before action) answers
-popped spec waiting left before after fuel w flow action next answers e is h = rw (e, is, h) (finish-goes_on spec left fuel w (flow_of flow before) answers)
+pub popped : (spec : SpecTree) (levels left : List Level) (before : Locals) (fuel : ℕ) (level : Level) (flow : Flow) (nest : Nest) (action : Action) (code : Code) (answers : List Answer)
+    → levels ≡ left ++ level ∷ [] → action ≡ Done flow → code ≡ level_then spec level (flow_of flow before)
+    → stands spec left fuel code answers ≡ stands spec levels fuel (code_inside spec nest before action) answers
+popped spec levels left before fuel level flow nest action code answers e is h = rw (e, is, h) (finish-goes_on spec left fuel level (flow_of flow before) answers)
 
 -- ---- loads
 
-pub load-push : (waiting : List Waiting) (w : Waiting) → waiting_load (waiting ++ w ∷ []) ≡ waiting_load waiting + waiting_weight w
-load-push [] w = omega arith
-load-push (first ∷ waiting) w = omega (arith, load-push waiting w)
+pub load-push : (levels : List Level) (level : Level) → waiting_load (levels ++ level ∷ []) ≡ waiting_load levels + waiting_weight level.waiting
+load-push [] level = omega arith
+load-push (first ∷ levels) level = omega (arith, load-push levels level)
 
 weight-le : (w : Waiting) → waiting_weight w ≤ 6
 weight-le (Expr frame) = omega arith
@@ -56,6 +59,9 @@ weight-le (Assign here target place) = omega arith
 weight-le (Return place) = omega arith
 weight-le (Body call saved) = omega arith
 weight-le (Initial making) = omega arith
+weight-le (Write me var place) = omega arith
+weight-le (Leave me op place) = omega arith
+weight-le (Slots making tested) = omega arith
 weight-le End = omega arith
 
 busy-le : (action : Action) → busy action ≤ 4
@@ -64,61 +70,78 @@ busy-le (Fail kind place) = omega arith
 busy-le (Uncaught v place) = omega arith
 busy-le (Ask asking) = omega arith
 busy-le (Part task waiting) = omega arith
-busy-le (Become task) = omega arith
+busy-le (Become here tree) = omega arith
+busy-le (Test here tree inner outer) = omega arith
 busy-le (Need need place after) = omega arith
 
-pub popped-low : (waiting left : List Waiting) (fuel : ℕ) (w : Waiting) (flow : Flow) (action next : Action) (bound : ℕ)
-    → waiting ≡ left ++ w ∷ [] → action ≡ Done flow → height next < waiting_weight w
-    → load waiting fuel (height action) ≤ bound → load left fuel (height next) ≤ bound
-popped-low waiting left fuel w flow action next bound e is falls low = omega (arith, falls, ap waiting_load e, load-push left w, ap height is, low)
+pub popped-low : (levels left : List Level) (fuel : ℕ) (level : Level) (flow : Flow) (action next : Action) (bound : ℕ)
+    → levels ≡ left ++ level ∷ [] → action ≡ Done flow → height next < waiting_weight level.waiting
+    → load levels fuel (height action) ≤ bound → load left fuel (height next) ≤ bound
+popped-low levels left fuel level flow action next bound e is falls low = omega (arith, falls, ap waiting_load e, load-push left level, ap height is, low)
 
-pub popped-falls : (waiting left : List Waiting) (fuel : ℕ) (w : Waiting) (flow : Flow) (action next : Action)
-    → waiting ≡ left ++ w ∷ [] → action ≡ Done flow → busy next ≤ waiting_weight w
-    → load left fuel (busy next) < load waiting fuel (busy action)
-popped-falls waiting left fuel w flow action next e is small = omega (arith, small, ap waiting_load e, load-push left w, ap busy is)
+pub popped-falls : (levels left : List Level) (fuel : ℕ) (level : Level) (flow : Flow) (action next : Action)
+    → levels ≡ left ++ level ∷ [] → action ≡ Done flow → busy next ≤ waiting_weight level.waiting
+    → load left fuel (busy next) < load levels fuel (busy action)
+popped-falls levels left fuel level flow action next e is small = omega (arith, small, ap waiting_load e, load-push left level, ap busy is)
 
 -- an action whose weight is known leads to a load that is no higher
-pub no_higher : (waiting : List Waiting) (fuel n weight bound : ℕ) (action : Action) → height action ≡ weight → n ≤ load waiting fuel weight
-    → load waiting fuel (height action) ≤ bound → n ≤ bound
-no_higher waiting fuel n weight bound action is below low = omega (arith, is, below, low)
+pub no_higher : (levels : List Level) (fuel n weight bound : ℕ) (action : Action) → height action ≡ weight → n ≤ load levels fuel weight
+    → load levels fuel (height action) ≤ bound → n ≤ bound
+no_higher levels fuel n weight bound action is below low = omega (arith, is, below, low)
 
 -- an action of a part that was entered with its unit
-pub entered-low : (waiting now : List Waiting) (fuel left : ℕ) (w : Waiting) (r : Result Action OutOfMemory)
-    → fuel ≡ suc left → now ≡ waiting ++ w ∷ [] → IfOk r (λ a. height a ≤ 5)
-    → IfOk r (λ a. load now left (height a) ≤ load waiting fuel 1)
-entered-low waiting now fuel left w (Ok a) e n small = omega (arith, e, ap waiting_load n, load-push waiting w, weight-le w, small)
-entered-low waiting now fuel left w (Err x) e n small = tt
+pub entered-low : (levels now : List Level) (fuel left : ℕ) (level : Level) (r : Result Action OutOfMemory)
+    → fuel ≡ suc left → now ≡ levels ++ level ∷ [] → IfOk r (λ a. height a ≤ 5)
+    → IfOk r (λ a. load now left (height a) ≤ load levels fuel 1)
+entered-low levels now fuel left level (Ok a) e n small = omega (arith, e, ap waiting_load n, load-push levels level, weight-le level.waiting, small)
+entered-low levels now fuel left level (Err x) e n small = tt
 
-pub entered-falls : (waiting now : List Waiting) (fuel left : ℕ) (w : Waiting) (r : Result Action OutOfMemory)
-    → fuel ≡ suc left → now ≡ waiting ++ w ∷ []
-    → IfOk r (λ a. load now left (busy a) < load waiting fuel 1)
-entered-falls waiting now fuel left w (Ok a) e n = omega (arith, e, ap waiting_load n, load-push waiting w, weight-le w, busy-le a)
-entered-falls waiting now fuel left w (Err x) e n = tt
+pub entered-falls : (levels now : List Level) (fuel left : ℕ) (level : Level) (r : Result Action OutOfMemory)
+    → fuel ≡ suc left → now ≡ levels ++ level ∷ []
+    → IfOk r (λ a. load now left (busy a) < load levels fuel 1)
+entered-falls levels now fuel left level (Ok a) e n = omega (arith, e, ap waiting_load n, load-push levels level, weight-le level.waiting, busy-le a)
+entered-falls levels now fuel left level (Err x) e n = tt
+
+-- ... of the test of a value, behind which two levels wait
+pub tests-low : (levels one now : List Level) (fuel left : ℕ) (inner outer : Level) (r : Result Action OutOfMemory)
+    → fuel ≡ suc left → one ≡ levels ++ outer ∷ [] → now ≡ one ++ inner ∷ [] → IfOk r (λ a. height a ≤ 5)
+    → IfOk r (λ a. load now left (height a) ≤ load levels fuel 1)
+tests-low levels one now fuel left inner outer (Ok a) e o n small =
+    omega (arith, e, ap waiting_load o, ap waiting_load n, load-push levels outer, load-push one inner, weight-le outer.waiting, weight-le inner.waiting, small)
+tests-low levels one now fuel left inner outer (Err x) e o n small = tt
+
+pub tests-falls : (levels one now : List Level) (fuel left : ℕ) (inner outer : Level) (r : Result Action OutOfMemory)
+    → fuel ≡ suc left → one ≡ levels ++ outer ∷ [] → now ≡ one ++ inner ∷ []
+    → IfOk r (λ a. load now left (busy a) < load levels fuel 1)
+tests-falls levels one now fuel left inner outer (Ok a) e o n =
+    omega (arith, e, ap waiting_load o, ap waiting_load n, load-push levels outer, load-push one inner, weight-le outer.waiting, weight-le inner.waiting, busy-le a)
+tests-falls levels one now fuel left inner outer (Err x) e o n = tt
 
 -- ... of one that was entered in the stead of another
-pub begun-low : (waiting : List Waiting) (fuel left : ℕ) (r : Result Action OutOfMemory)
+pub begun-low : (levels : List Level) (fuel left : ℕ) (r : Result Action OutOfMemory)
     → fuel ≡ suc left → IfOk r (λ a. height a ≤ 5)
-    → IfOk r (λ a. load waiting left (height a) ≤ load waiting fuel 1)
-begun-low waiting fuel left (Ok a) e small = omega (arith, e, small)
-begun-low waiting fuel left (Err x) e small = tt
+    → IfOk r (λ a. load levels left (height a) ≤ load levels fuel 1)
+begun-low levels fuel left (Ok a) e small = omega (arith, e, small)
+begun-low levels fuel left (Err x) e small = tt
 
 -- ... of a need, behind which the node waits
-pub needing-low : (waiting now : List Waiting) (fuel : ℕ) (w : Waiting) (r : Result Action OutOfMemory)
-    → now ≡ waiting ++ w ∷ [] → waiting_weight w ≡ 2 → IfOk r (λ a. height a ≤ 3)
-    → IfOk r (λ a. load now fuel (height a) ≤ load waiting fuel 5)
-needing-low waiting now fuel w (Ok a) n two small = omega (arith, ap waiting_load n, load-push waiting w, two, small)
-needing-low waiting now fuel w (Err x) n two small = tt
+pub needing-low : (levels now : List Level) (fuel : ℕ) (level : Level) (r : Result Action OutOfMemory)
+    → now ≡ levels ++ level ∷ [] → waiting_weight level.waiting ≡ 2 → IfOk r (λ a. height a ≤ 3)
+    → IfOk r (λ a. load now fuel (height a) ≤ load levels fuel 5)
+needing-low levels now fuel level (Ok a) n two small = omega (arith, ap waiting_load n, load-push levels level, two, small)
+needing-low levels now fuel level (Err x) n two small = tt
 
-pub needing-falls : (waiting now : List Waiting) (fuel : ℕ) (w : Waiting) (r : Result Action OutOfMemory)
-    → now ≡ waiting ++ w ∷ [] → waiting_weight w ≡ 2 → IfOk r (λ a. busy a ≤ 1)
-    → IfOk r (λ a. load now fuel (busy a) < load waiting fuel 4)
-needing-falls waiting now fuel w (Ok a) n two small = omega (arith, ap waiting_load n, load-push waiting w, two, small)
-needing-falls waiting now fuel w (Err x) n two small = tt
+pub needing-falls : (levels now : List Level) (fuel : ℕ) (level : Level) (r : Result Action OutOfMemory)
+    → now ≡ levels ++ level ∷ [] → waiting_weight level.waiting ≡ 2 → IfOk r (λ a. busy a ≤ 1)
+    → IfOk r (λ a. load now fuel (busy a) < load levels fuel 4)
+needing-falls levels now fuel level (Ok a) n two small = omega (arith, ap waiting_load n, load-push levels level, two, small)
+needing-falls levels now fuel level (Err x) n two small = tt
 
 -- ---- main
 
 -- where nothing waits and no name is bound, the class objects and the expression are main's plan
-pub main-stands : (spec : SpecTree) (tree : ExprTree) (waiting : List Waiting) (locals : Locals) (fuel : ℕ) (classes : List Name) (action : Action) (answers : List Answer)
-    → waiting ≡ [] → locals ≡ [] → classes ≡ classes_of spec → action_code spec [] action ≡ make_class_objects 0 classes (main_expression tree)
-    → stands spec waiting fuel (action_code spec locals action) answers ≡ main_code spec tree fuel answers
-main-stands spec tree waiting locals fuel classes action answers none nobody all is = rw (none, nobody, is, all) refl
+pub main-stands : (spec : SpecTree) (tree : ExprTree) (levels : List Level) (locals : Locals) (fuel : ℕ) (classes : List Name) (nest : Nest) (action : Action) (answers : List Answer)
+    → levels ≡ [] → locals ≡ [] → classes ≡ classes_of spec → nest_of nest ≡ no_nest → action_code spec [] action ≡ make_class_objects 0 classes (main_expression tree)
+    → stands spec levels fuel (code_inside spec nest locals action) answers ≡ main_code spec tree fuel answers
+main-stands spec tree levels locals fuel classes nest action answers none nobody all outside is =
+    rw (none, nobody, outside, is, all) (ap (λ code. stands spec [] fuel code answers) (placed-none (make_class_objects 0 (classes_of spec) (main_expression tree))))

@@ -8,16 +8,17 @@ ghost use Rattle.spec_table.specs.Tables.{table_spec};
 ghost use Rattle.step_data.specs.Actions.{busy, height};
 ghost use Rattle.stmt_exec.specs.Standing.{rest, rest_at, rest_weight, rank, load, stands_with, IsSpent};
 
+use crate::acting::{behind, planned, unentered};
 use call_steps::need::needed;
-use eval_data::{After, Flow, Need};
+use eval_data::{After, Flow, Frame, Here, Need, Nest};
 use main_steps::{make_class_objects, question_of};
-use next_steps::{answered_of, plan_of, then_of};
+use next_steps::answered_of;
 use plans::take_unit;
 use run_journal::{Answer, Question};
 use spec_table::ClassTable;
 use std::alloc::Global;
 use std::mem;
-use step_data::{Action, Asking, Task, Waiting};
+use step_data::{Action, Asking, Level, Task, Waiting};
 use vdm_kinds::{Name, OutOfMemory, Place, RunFault};
 use vdm_tree::Expr;
 use vdm_values::{Slot, Value};
@@ -40,9 +41,11 @@ enum Rest<'t> {
 pub struct Machine<'t> {
     table: &'t ClassTable,
     /// What waits for what comes of the parts that are entered, the outermost first.
-    waiting: Vec<Waiting<'t>>,
+    levels: Vec<Level<'t>>,
     /// The names that are bound where the thread stands, the newest last.
     locals: Vec<(Name, Slot)>,
+    /// The tests of types round the node where it stands.
+    nest: Nest,
     rest: Rest<'t>,
     /// The units that are left.
     fuel: u64,
@@ -53,8 +56,9 @@ impl<'t> Drop for Machine<'t> {
     fn drop(self) {
         let Machine {
             table: _,
-            waiting: _,
+            levels: _,
             locals: _,
+            nest: _,
             rest: _,
             fuel: _,
         } = self;
@@ -73,8 +77,9 @@ impl<'t> Machine<'t> {
     {
         let mut machine = Machine {
             table,
-            waiting: Vec::new(alloc),
+            levels: Vec::new(alloc),
             locals: Vec::new(alloc),
+            nest: Nest::none(),
             rest: Rest::Spent,
             fuel: steps,
         };
@@ -144,8 +149,8 @@ impl<'t> Machine<'t> {
         rest: Rest<'t>,
         answer: Answer,
     ) -> Result<Rest<'t>, OutOfMemory>
-        ensures same { IfOk result (λ r. (answers : List AnswerView) → rest_at (table_spec self.old.table.now) self.new.waiting.items self.new.locals.items self.new.fuel r answers ≡ rest_at (table_spec self.old.table.now) self.old.waiting.items self.old.locals.items self.old.fuel rest.entry (answer ∷ answers)) }
-        ensures falls { IfOk result (λ r. load self.new.waiting.items self.new.fuel (rest_weight r) < load self.old.waiting.items self.old.fuel (rest_weight rest.entry)) }
+        ensures same { IfOk result (λ r. (answers : List AnswerView) → rest_at (table_spec self.old.table.now) self.new.levels.items self.new.nest self.new.locals.items self.new.fuel r answers ≡ rest_at (table_spec self.old.table.now) self.old.levels.items self.old.nest self.old.locals.items self.old.fuel rest.entry (answer ∷ answers)) }
+        ensures falls { IfOk result (λ r. load self.new.levels.items self.new.fuel (rest_weight r) < load self.old.levels.items self.old.fuel (rest_weight rest.entry)) }
         ensures table { self.new.table ≡ self.old.table }
         ensures rest { self.new.rest ≡ self.old.rest }
         ensures spent { rest.entry ≡ Rest.Spent → IsErr result }
@@ -163,23 +168,33 @@ impl<'t> Machine<'t> {
 
     /// Acts until the thread is at rest, and says where.
     fn run(&mut self, alloc: Global, action: Action<'t>) -> Result<Rest<'t>, OutOfMemory>
-        ensures same { IfOk result (λ r. (answers : List AnswerView) → rest_at (table_spec self.old.table.now) self.new.waiting.items self.new.locals.items self.new.fuel r answers ≡ stands_with self.old action.entry answers) }
-        ensures low { IfOk result (λ r. load self.new.waiting.items self.new.fuel (rest_weight r) ≤ load self.old.waiting.items self.old.fuel (height action.entry)) }
+        ensures same { IfOk result (λ r. (answers : List AnswerView) → rest_at (table_spec self.old.table.now) self.new.levels.items self.new.nest self.new.locals.items self.new.fuel r answers ≡ stands_with self.old action.entry answers) }
+        ensures low { IfOk result (λ r. load self.new.levels.items self.new.fuel (rest_weight r) ≤ load self.old.levels.items self.old.fuel (height action.entry)) }
         ensures table { self.new.table ≡ self.old.table }
         ensures rest { self.new.rest ≡ self.old.rest }
     {
         let mut action = action;
         'actions: loop {
             action = match action {
-                Action::Finish(flow) => match self.waiting.pop() {
-                    Some(waiting) => then_of(alloc, self.table, &mut self.locals, waiting, flow)?,
+                Action::Finish(flow) => match self.levels.pop() {
+                    Some(level) => {
+                        let nest = &mut self.nest;
+                        behind(alloc, self.table, &mut self.locals, nest, level, flow)?
+                    }
                     None => return Ok(over(flow)),
                 },
                 Action::Part(task, waiting) => self.enter(alloc, task, waiting)?,
-                Action::Become(task) => self.begin(alloc, task)?,
+                Action::Become(here, tree) => self.begin(alloc, here, tree)?,
+                Action::Test(here, tree, inner, outer) => {
+                    self.test(alloc, here, tree, inner, outer)?
+                }
                 Action::Need(need, place, after) => self.need(alloc, need, place, after)?,
-                Action::Fail(fault, place) => return Ok(Rest::Fails(fault, place)),
-                Action::Uncaught(value, place) => return Ok(Rest::Exits(value, place)),
+                Action::Fail(fault, place) => {
+                    return Ok(Rest::Fails(fault, self.nest.place(place)));
+                }
+                Action::Uncaught(value, place) => {
+                    return Ok(Rest::Exits(value, self.nest.place(place)));
+                }
                 Action::Ask(asking) => return Ok(Rest::Asks(asking)),
             };
         }
@@ -191,7 +206,7 @@ impl<'t> Machine<'t> {
         self.rest = rest;
     }
 
-    /// Enters a node, which takes a unit or is spent; and lets what waits for it wait.
+    /// Enters a node, which takes a unit or is spent; and lets what waits for it wait, inside of the tests round it.
     fn enter(
         &mut self,
         alloc: Global,
@@ -199,35 +214,76 @@ impl<'t> Machine<'t> {
         waiting: Waiting<'t>,
     ) -> Result<Action<'t>, OutOfMemory>
         ensures same { IfOk result (λ a. (answers : List AnswerView) → stands_with self.new a answers ≡ stands_with self.old (Action.Part task.entry waiting.entry) answers) }
-        ensures low { IfOk result (λ a. load self.new.waiting.items self.new.fuel (height a) ≤ load self.old.waiting.items self.old.fuel 1) }
-        ensures falls { IfOk result (λ a. load self.new.waiting.items self.new.fuel (busy a) < load self.old.waiting.items self.old.fuel 1) }
+        ensures low { IfOk result (λ a. load self.new.levels.items self.new.fuel (height a) ≤ load self.old.levels.items self.old.fuel 1) }
+        ensures falls { IfOk result (λ a. load self.new.levels.items self.new.fuel (busy a) < load self.old.levels.items self.old.fuel 1) }
         ensures table { self.new.table ≡ self.old.table }
         ensures rest { self.new.rest ≡ self.old.rest }
     {
         match take_unit(self.fuel) {
             Some(left) => {
                 self.fuel = left;
-                self.waiting.push(waiting)?;
-                plan_of(alloc, self.table, &mut self.locals, task)
+                let nest = self.nest;
+                self.levels.push(Level { nest, waiting })?;
+                planned(alloc, self.table, &mut self.locals, &mut self.nest, task)
             }
-            None => Ok(Action::Fail(RunFault::StepLimit, task.place())),
+            None => Ok(unentered(&mut self.nest, task)),
         }
     }
 
-    /// Enters a node in the stead of another.
-    fn begin(&mut self, alloc: Global, task: Task<'t>) -> Result<Action<'t>, OutOfMemory>
-        ensures same { IfOk result (λ a. (answers : List AnswerView) → stands_with self.new a answers ≡ stands_with self.old (Action.Become task.entry) answers) }
-        ensures low { IfOk result (λ a. load self.new.waiting.items self.new.fuel (height a) ≤ load self.old.waiting.items self.old.fuel 1) }
-        ensures falls { IfOk result (λ a. load self.new.waiting.items self.new.fuel (busy a) < load self.old.waiting.items self.old.fuel 1) }
+    /// Enters an expression in the stead of a node.
+    fn begin(
+        &mut self,
+        alloc: Global,
+        here: Here<'t>,
+        tree: &'t Expr,
+    ) -> Result<Action<'t>, OutOfMemory>
+        ensures same { IfOk result (λ a. (answers : List AnswerView) → stands_with self.new a answers ≡ stands_with self.old (Action.Become here.entry tree.entry) answers) }
+        ensures low { IfOk result (λ a. load self.new.levels.items self.new.fuel (height a) ≤ load self.old.levels.items self.old.fuel 1) }
+        ensures falls { IfOk result (λ a. load self.new.levels.items self.new.fuel (busy a) < load self.old.levels.items self.old.fuel 1) }
         ensures table { self.new.table ≡ self.old.table }
         ensures rest { self.new.rest ≡ self.old.rest }
     {
+        let task = Task::Expr(here, tree);
         match take_unit(self.fuel) {
             Some(left) => {
                 self.fuel = left;
-                plan_of(alloc, self.table, &mut self.locals, task)
+                planned(alloc, self.table, &mut self.locals, &mut self.nest, task)
             }
-            None => Ok(Action::Fail(RunFault::StepLimit, task.place())),
+            None => Ok(unentered(&mut self.nest, task)),
+        }
+    }
+
+    /// Enters a part of the test of a value, behind which two levels wait.
+    fn test(
+        &mut self,
+        alloc: Global,
+        here: Here<'t>,
+        tree: &'t Expr,
+        inner: Frame<'t>,
+        outer: Waiting<'t>,
+    ) -> Result<Action<'t>, OutOfMemory>
+        ensures same { IfOk result (λ a. (answers : List AnswerView) → stands_with self.new a answers ≡ stands_with self.old (Action.Test here.entry tree.entry inner.entry outer.entry) answers) }
+        ensures low { IfOk result (λ a. load self.new.levels.items self.new.fuel (height a) ≤ load self.old.levels.items self.old.fuel 1) }
+        ensures falls { IfOk result (λ a. load self.new.levels.items self.new.fuel (busy a) < load self.old.levels.items self.old.fuel 1) }
+        ensures table { self.new.table ≡ self.old.table }
+        ensures rest { self.new.rest ≡ self.old.rest }
+    {
+        let task = Task::Expr(here, tree);
+        match take_unit(self.fuel) {
+            Some(left) => {
+                self.fuel = left;
+                let nest = self.nest;
+                self.levels.push(Level {
+                    nest,
+                    waiting: outer,
+                })?;
+                self.levels.push(Level {
+                    nest,
+                    waiting: Waiting::Expr(inner),
+                })?;
+                planned(alloc, self.table, &mut self.locals, &mut self.nest, task)
+            }
+            None => Ok(unentered(&mut self.nest, task)),
         }
     }
 
@@ -240,12 +296,14 @@ impl<'t> Machine<'t> {
         after: After,
     ) -> Result<Action<'t>, OutOfMemory>
         ensures same { IfOk result (λ a. (answers : List AnswerView) → stands_with self.new a answers ≡ stands_with self.old (Action.Need need place after) answers) }
-        ensures low { IfOk result (λ a. load self.new.waiting.items self.new.fuel (height a) ≤ load self.old.waiting.items self.old.fuel 5) }
-        ensures falls { IfOk result (λ a. load self.new.waiting.items self.new.fuel (busy a) < load self.old.waiting.items self.old.fuel 4) }
+        ensures low { IfOk result (λ a. load self.new.levels.items self.new.fuel (height a) ≤ load self.old.levels.items self.old.fuel 5) }
+        ensures falls { IfOk result (λ a. load self.new.levels.items self.new.fuel (busy a) < load self.old.levels.items self.old.fuel 4) }
         ensures table { self.new.table ≡ self.old.table }
         ensures rest { self.new.rest ≡ self.old.rest }
     {
-        self.waiting.push(Waiting::After(after, place))?;
+        let nest = self.nest;
+        let waiting = Waiting::After(after, place);
+        self.levels.push(Level { nest, waiting })?;
         needed(alloc, self.table, &mut self.locals, need, place)
     }
 }

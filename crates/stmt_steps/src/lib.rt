@@ -5,6 +5,6 @@ mod assignment;
 mod sequence;
 mod statements;
 
-pub use assignment::{assigned, written};
+pub use assignment::{assigned, write_asked, written};
 pub use sequence::{called, return_value, unless_ended};
 pub use statements::statement;

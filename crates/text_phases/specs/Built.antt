@@ -360,11 +360,12 @@ unbuilt_in_block statement = Some (stmt_place statement)
 
 -- ---- types, values and functions
 
--- no invariant of a type is built
+-- the invariant of a type: its pattern, and behind it its condition
 abbrev pub unbuilt_in_invariant : Option InvariantTree → Option Place
 unbuilt_in_invariant None = None
-unbuilt_in_invariant (Some i) = Some (pattern_place i.pattern)
+unbuilt_in_invariant (Some i) = or_behind (unbuilt_in_pattern i.pattern) (unbuilt_in_expr i.condition)
 
+-- nothing of a type but its invariant is evaluated
 abbrev pub unbuilt_in_types : List TypeDefTree → Option Place
 unbuilt_in_types [] = None
 unbuilt_in_types (t ∷ ts) = or_behind (unbuilt_in_invariant t.invariant) (unbuilt_in_types ts)

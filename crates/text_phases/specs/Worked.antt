@@ -133,6 +133,10 @@ a_type column = record {
   place = at column;
 }
 
+-- `T = nat inv .. == ..`, from this column on
+abbrev pub type_where : PatternTree → ExprTree → ℕ → TypeDefTree
+type_where pattern condition column = record (a_type column) { invariant = Some (record { pattern = pattern; condition = condition }) }
+
 -- `n = ..`, from this column on
 abbrev pub a_value : ExprTree → ℕ → ValueDefTree
 a_value value column = record {

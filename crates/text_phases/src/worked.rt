@@ -15,7 +15,7 @@ ghost use Rattle.abstract_syntax.specs.Classes.{variable_item, invariant_item, n
 ghost use Rattle.class_meaning.specs.Classes.{print, println};
 ghost use Rattle.text_phases.specs.Built.{unbuilt_in_expr, unbuilt_if_given, unbuilt_in_stmt, unbuilt_in_function, unbuilt_in_variable, unbuilt_in_operation, unbuilt_in_superclasses, unbuilt_in_spec};
 ghost use Rattle.text_phases.specs.Phases.{checks_fault, main_checks_fault};
-ghost use Rattle.text_phases.specs.Worked.{at, name, class_name, n, op, one, truth, use_of, sign_between, applied, selected, new_of, an_argument, call_of_new, a_bind, type_at, record_at, in_block, set_to, call_to, gives, nat_type, a_variable, an_operation, a_type, a_value, a_function, a_class, spec_of, spec_of_two, spec_below, spec_with, spec_over};
+ghost use Rattle.text_phases.specs.Worked.{at, name, class_name, n, op, one, truth, use_of, sign_between, applied, selected, new_of, an_argument, call_of_new, a_bind, type_at, record_at, in_block, set_to, call_to, gives, nat_type, a_variable, an_operation, a_type, type_where, a_value, a_function, a_class, spec_of, spec_of_two, spec_below, spec_with, spec_over};
 
 /// Expressions: names, what is called, selected and made.
 pub fn built_expressions()
@@ -115,8 +115,11 @@ pub fn built_operations()
 /// Types, values and functions, of any class.
 pub fn built_functions()
     ensures type_alone { unbuilt_in_spec (spec_of (types (a_type 30 ∷ []) (at 9) ∷ [])) ≡ None }
-    ensures invariant { unbuilt_in_spec (spec_of (types (a_type 30 ∷ record (a_type 50) { invariant = Some (record { pattern = bound n (at 64); condition = truth 69 }) } ∷ []) (at 9) ∷ []))
-        ≡ Some (at 64) }
+    ensures with_invariant { unbuilt_in_spec (spec_of (types (a_type 30 ∷ type_where (bound n (at 64)) (truth 69) 50 ∷ []) (at 9) ∷ [])) ≡ None }
+    ensures invariant_pattern { unbuilt_in_spec (spec_of (types (type_where (record_at 64) (current_time (at 80)) 50 ∷ []) (at 9) ∷ [])) ≡ Some (at 70) }
+    ensures invariant_condition { unbuilt_in_spec (spec_of (types (type_where (bound n (at 64)) (self_object (at 69)) 50 ∷ type_where (record_at 94) (truth 99) 80 ∷ []) (at 9) ∷ []))
+        ≡ Some (at 69) }
+    ensures second_invariant { unbuilt_in_spec (spec_of (types (type_where (bound n (at 64)) (truth 69) 50 ∷ type_where (record_at 94) (truth 99) 80 ∷ []) (at 9) ∷ [])) ≡ Some (at 100) }
     ensures value { unbuilt_in_spec (spec_of (values (a_value (one 34) 30 ∷ a_value (self_object (at 44)) 40 ∷ []) (at 9) ∷ [])) ≡ Some (at 44) }
     ensures pattern_first { unbuilt_in_function (a_function (record_at 50) (self_object (at 70)) 30) ≡ Some (at 56) }
     ensures body { unbuilt_in_function (record (a_function (bound n (at 50)) (self_object (at 56)) 30) { pre = Some (current_time (at 70)) }) ≡ Some (at 56) }

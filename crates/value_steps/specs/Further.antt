@@ -8,9 +8,9 @@ use Rattle.node_meaning.specs.Functions.{pre_decided, post_decided}
 use Rattle.node_meaning.specs.Needs.{Setting}
 use Rattle.node_meaning.specs.Tasks.{Code, fault}
 use Rattle.eval_data.specs.Parts.{here_of, search_of, first_choice, applying_of}
-use Rattle.eval_data.specs.Steps.{code_of, then_of, choose_behind}
+use Rattle.eval_data.specs.Steps.{code_of, then_of, choose_behind, told}
 use Rattle.value_steps.specs.declared.decisions.Decided.{Decided}
-use Rattle.value_steps.specs.declared.decisions.Decided.TheVariants.{Known, Chosen, Pre, Post}
+use Rattle.value_steps.specs.declared.decisions.Decided.TheVariants.{Known, Chosen, Pre, Post, Invariant}
 use Rattle.value_steps.specs.declared.gathering.Gathered.{Gathered}
 use Rattle.value_steps.specs.declared.gathering.Gathered.TheVariants.{Part, All}
 
@@ -24,10 +24,11 @@ abbrev pub where_truth : Place → (Bool → Locals → Code) → Option Bool �
 where_truth place further None locals = fault TypeFault place
 where_truth place further (Some b) locals = further b locals
 
--- the step is known, a choice fulfils its condition or does not, or a function's `pre` or `post` is true or not
+-- the step is known, a choice fulfils its condition or does not, a function's `pre` or `post` is true or not, or an invariant holds or not
 abbrev pub decided_code : Setting → Locals → Decided → Code
 decided_code setting locals (Known step) = code_of setting locals step
 decided_code setting locals (Chosen search b) =
     by_truth (search_of search.value) (first_choice search.value) search.value.done.items (choose_behind setting.spec search.value 1) b locals
 decided_code setting locals (Pre a b) = pre_decided setting.spec (applying_of a.value) b locals
 decided_code setting locals (Post a v b) = post_decided (applying_of a.value) v b locals
+decided_code setting locals (Invariant a b) = told setting.spec a.value b locals

@@ -15,7 +15,7 @@ ghost use Rattle.value_steps.specs.Further.{decided_code, where_truth};
 
 use crate::branches::branch;
 use crate::operands::{between, part_for};
-use eval_data::{Applying, Here, Search, Step, TruthUse, Use};
+use eval_data::{Applying, Asking, Here, Search, Step, TruthUse, Use};
 use expr_tree::Expr;
 use vdm_kinds::{Place, RunFault, Sign};
 use vdm_values::{Node, Value};
@@ -31,6 +31,8 @@ pub enum Decided<'t> {
     Pre(Box<Applying<'t>>, bool),
     /// What `post` says of the result of a function.
     Post(Box<Applying<'t>>, Value, bool),
+    /// Whether an invariant holds.
+    Invariant(Box<Asking<'t>>, bool),
 }
 
 /// The truth value that the value is, if it is one.
@@ -67,6 +69,7 @@ fn decided_for<'t>(used: TruthUse<'t>, place: Place, b: bool) -> Decided<'t>
         TruthUse::Choice(search) => Decided::Chosen(search, b),
         TruthUse::Pre(applying) => Decided::Pre(applying, b),
         TruthUse::Post(applying, result) => Decided::Post(applying, result, b),
+        TruthUse::Invariant(asking) => Decided::Invariant(asking, b),
     }
 }
 

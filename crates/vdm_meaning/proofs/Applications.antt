@@ -42,7 +42,7 @@ module _ (spec : SpecTree) (first now : List Entry) (here : Here) (place : Place
 
   safe-no_such_call : (arguments : ExprTrees) → IsSafe spec first now (collected here place arguments [] (no_such_call place) locals)
   safe-no_such_call arguments =
-      safe-collected spec first now here place arguments [] (no_such_call place) locals is_at tt (λ later vs after w at_later known. may-fail spec TypeFault place at_later.may)
+      safe-collected spec (Some 3) first now here place arguments [] (no_such_call place) locals is_at tt (λ later vs after w at_later known. may-fail spec TypeFault place at_later.may)
 
   safe-called_on : (arguments : ExprTrees) (me : ℕ) (own : Name) (op : Option OpRef) (wanted : Wanted) → object_part me now ≢ [] → IsSafe spec first now (called_on (of_thread spec) here arguments me own op place wanted locals)
   safe-called_on arguments me own None wanted there = safe-no_such_call arguments
@@ -50,7 +50,7 @@ module _ (spec : SpecTree) (first now : List Entry) (here : Here) (place : Place
 
   safe-looked_up_in : (arguments : ExprTrees) (v : ValueTree) → IsKnown now v → IsSafe spec first now (looked_up_in here arguments place v locals)
   safe-looked_up_in (one_expr argument no_exprs) v known =
-      safe-collected spec first now here place (one_expr argument no_exprs) (v ∷ []) (make (two_operands LookUp) place) locals is_at (known, tt) (λ later vs after w at_later also.
+      safe-collected spec (Some 3) first now here place (one_expr argument no_exprs) (v ∷ []) (make (two_operands LookUp) place) locals is_at (known, tt) (λ later vs after w at_later also.
       safe-make spec (two_operands LookUp) place vs at_later also)
   safe-looked_up_in _ v known = may-fail spec TypeFault place is_at.may
 
@@ -95,6 +95,6 @@ safe-application spec first now here (named name name_place) arguments place wan
 safe-application spec first now here (qualified class name name_place class_place) arguments place wanted locals is_at =
     safe-qualified_applied spec first now here place locals is_at (qualified class name name_place class_place) class name arguments wanted
 safe-application spec first now here (select target name name_place dot) arguments place wanted locals is_at =
-    safe-evaluated spec first now here locals target place (called_through (of_thread spec) here name arguments dot place wanted) is_at (λ later v after w at_later known.
+    safe-evaluated spec (Some 3) first now here locals target place (called_through (of_thread spec) here name arguments dot place wanted) is_at (λ later v after w at_later known.
     safe-called_through spec first later here place after at_later name arguments dot wanted v known)
 safe-application spec first now here head arguments place wanted locals is_at = safe-looked_up spec first now here place locals is_at head arguments

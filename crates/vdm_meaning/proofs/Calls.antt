@@ -1,9 +1,8 @@
 -- Calls keep the rules of journals.
-use Rattle.std.proofs.Common.{◌≢◌, ◌∷◌, [], Err, IfOk, List, None, Ok, Option, Result, Some, refl, ℕ}
+use Rattle.std.proofs.Common.{◌≢◌, ◌∷◌, [], List, None, Option, Some, refl, ℕ}
 use Rattle.vdm_kinds.specs.declared.member.OpRef.{OpRef}
 use Rattle.vdm_kinds.specs.declared.name.Name.{Name}
 use Rattle.vdm_kinds.specs.declared.place.Place.{Place}
-use Rattle.vdm_kinds.specs.declared.run_fault.RunFault.{RunFault}
 use Rattle.vdm_kinds.specs.declared.run_fault.RunFault.TheVariants.{NoReturn, TypeFault, Undefined}
 use Rattle.vdm_values.specs.declared.slot.Slot.{Slot}
 use Rattle.vdm_values.specs.declared.slot.Slot.TheVariants.{Unset, Held}
@@ -18,29 +17,17 @@ use Rattle.run_journal.specs.declared.thread.Thread.TheVariants.{Main}
 use Rattle.run_journal.specs.Made.{entry}
 use Rattle.run_journal.specs.Parts.{object_part}
 use Rattle.run_journal.specs.declared.deed.Deed.TheVariants as deed
-use Rattle.plans.specs.Plans.{ask, finish}
-use Rattle.vdm_legal.proofs.Known.{IsKnownSlot, known-on, slot-on}
-use Rattle.vdm_legal.proofs.Sanity.{IsSane, IsWithin, act-waits, begun-sane, behind_activation, behind_finish, behind_request, fin-waits, finished-sane, finished-within, request-sane}
-use Rattle.node_meaning.specs.Envs.{Here, Locals, inside}
-use Rattle.node_meaning.specs.Tasks.{Flow, exited, gave, next, noted, returned}
-use Rattle.node_meaning.specs.Strict.{there}
-use Rattle.node_meaning.specs.Fitting.{type_fault}
-use Rattle.node_meaning.specs.Calls.{given_slot, given, unless_wrong, tested, finished, ended, begun, activated, requested, called, Wanted, a_value, no_value}
-use Rattle.vdm_meaning.proofs.Rules.{GivesKnown, IsSafe, IsSafeWith, MayLeave, MayRun}
-use Rattle.vdm_meaning.proofs.Parts.{IsAt, at-among, at-later, may-fail, run-behind, safe-finish, safe-value}
+use Rattle.plans.specs.Plans.{finish}
+use Rattle.vdm_legal.proofs.Known.{IsKnownSlot, slot-on}
+use Rattle.vdm_legal.proofs.Sanity.{IsSane, IsWithin, act-waits, begun-sane, behind_activation, behind_finish, behind_request, fin-waits, finished-sane, finished-within, request-sane, within-then}
+use Rattle.node_meaning.specs.Envs.{Here, Locals, inside, no_nest}
+use Rattle.node_meaning.specs.Tasks.{Flow, exited, gave, next, returned, with_value}
+use Rattle.node_meaning.specs.Fitting.{fitted}
+use Rattle.node_meaning.specs.Calls.{given_slot, given, finished, finished_with, left_with, ended, begun, activated, requested, called, Wanted, a_value, no_value}
+use Rattle.vdm_meaning.proofs.Rules.{AreKnown, GivesKnown, IsSafe, IsSafeWith, MayLeave, MayRun, rules}
+use Rattle.vdm_meaning.proofs.Parts.{IsAt, at-among, at-later, at-start, locals-on, may-fail, run-behind, safe-finish, safe-value}
 use Rattle.vdm_meaning.proofs.Asking.{safe-ask}
-
--- ---- what the test of a result lets through
-
-unless_wrong-known : (now : List Entry) (found : Option RunFault) (slot : Slot) → IsKnownSlot now slot → IfOk (unless_wrong found slot) (IsKnownSlot now)
-unless_wrong-known now None slot h = h
-unless_wrong-known now (Some kind) slot h = tt
-
-tested-known : (spec : SpecTree) (now : List Entry) (class : Name) (declared : Option TypeTree) (slot : Slot) → IsKnownSlot now slot → IfOk (tested spec class declared slot) (IsKnownSlot now)
-tested-known spec now class None Unset h = tt
-tested-known spec now class None (Held v) h = tt
-tested-known spec now class (Some declared) Unset h = tt
-tested-known spec now class (Some declared) (Held v) h = unless_wrong-known now (type_fault spec (Some class) declared v) (Held v) h
+use Rattle.vdm_meaning.proofs.Fitting.{bind-quiet, safe-fitted}
 
 module _ (spec : SpecTree) where
   -- ---- what is given where the call stands
@@ -60,44 +47,69 @@ module _ (spec : SpecTree) where
 
   -- `own` is the class of the object, in which the body stands
   module _ (first before : List Entry) (here : Here) (locals : Locals) (is_at : IsAt first before here locals) (me : ℕ) (there : object_part me before ≢ []) (own : Name) (op : OpRef) (operation : OperationTree) (place : Place) where
+    -- what may run where the call stands may run behind its request, and behind its activation
+    module _ (at_node : Here) (others : Locals) (may : MayRun before at_node others) where
+      run-requested : MayRun (behind_request before me op) at_node others
+      run-requested =
+          run-behind before (entry Main me (deed.Req op) ∷ []) (behind_request before me op) refl at_node others may (request-sane before me op is_at.may.sane)
+
+      run-begun : MayRun (behind_activation before me op) at_node others
+      run-begun =
+          run-behind (behind_request before me op) (entry Main me (deed.Act op) ∷ []) (behind_activation before me op) refl at_node others run-requested
+          (begun-sane before me op is_at.may.sane)
+
     callee : MayRun before (inside me own op.class) []
     callee = record { sane = is_at.may.sane; main = is_at.may.main; me = there; held = tt; known = tt }
 
     callee-requested : MayRun (behind_request before me op) (inside me own op.class) []
-    callee-requested =
-        run-behind before (entry Main me (deed.Req op) ∷ []) (behind_request before me op) refl (inside me own op.class) [] callee
-        (request-sane before me op is_at.may.sane)
+    callee-requested = run-requested (inside me own op.class) [] callee
 
     callee-begun : MayRun (behind_activation before me op) (inside me own op.class) []
-    callee-begun =
-        run-behind (behind_request before me op) (entry Main me (deed.Act op) ∷ []) (behind_activation before me op) refl (inside me own op.class) [] callee-requested
-        (begun-sane before me op is_at.may.sane)
+    callee-begun = run-begun (inside me own op.class) [] callee
 
     module _ (after : List Entry) (w : IsWithin (behind_activation before me op) after) (sane : IsSane after) where
       callee-done : MayRun after (inside me own op.class) []
       callee-done = run-behind (behind_activation before me op) w.more after w.behind (inside me own op.class) [] callee-begun sane
 
+      caller-done : MayRun after here locals
+      caller-done = run-behind (behind_activation before me op) w.more after w.behind here locals (run-begun here locals is_at.may) sane
+
       at-end : IsAt first (behind_finish after me op) here locals
       at-end = at-later is_at (finished-within before me op is_at.may.sane after w) (finished-sane before me op is_at.may.sane after w sane)
 
       -- what the caller goes on with, once the finish is answered
-      safe-fin : (flow : Flow) → GivesKnown (behind_finish after me op) flow → IsSafeWith spec (Some 1) first after (ask (noted (Fin me op)) (λ answer. finish flow))
-      safe-fin flow known =
-          safe-ask spec MayLeave first after 0 (λ answer. finish flow) (Fin me op) (entry Main me (deed.Fin op)) (λ a taken is. is)
+      safe-finished : (slot : Slot) (others : Locals) → IsKnownSlot after slot → AreKnown after others → IsSafeWith spec (Some 1) first after (finished me op slot others)
+      safe-finished slot others known kept =
+          let end = entry Main me (deed.Fin op) ∷ [] in
+          safe-ask spec MayLeave first after 0 (λ answer. finish (gave slot others)) (Fin me op) (entry Main me (deed.Fin op)) (λ a taken is. is)
           (record { ready = (callee-done.me, fin-waits before me op is_at.may.sane after w); sane = sane })
-          (safe-finish spec (Some 0) flow at-end known)
+          (safe-finish spec (Some 0) (gave slot others) at-end
+          (slot-on after end (behind_finish after me op) refl slot known, locals-on after end (behind_finish after me op) refl others kept))
 
-      safe-finished : (result : Result Slot RunFault) → IfOk result (IsKnownSlot after) → IsSafeWith spec (Some 1) first after (finished me op place locals result)
-      safe-finished (Err kind) h = may-fail spec kind place callee-done
-      safe-finished (Ok slot) h =
-          safe-fin (gave slot locals) (slot-on after (entry Main me (deed.Fin op) ∷ []) (behind_finish after me op) refl slot h, at-end.may.known)
+    -- behind the test of the result
+    safe-tested : (after : List Entry) → IsWithin (behind_activation before me op) after → IsSane after → (flow : Flow) → GivesKnown after flow → IsSafeWith spec (Some 1) first after (with_value place (finished_with me op) flow)
+    safe-tested after w sane (gave (Held v) others) known = safe-finished after w sane (Held v) others known.0 known.1
+    safe-tested after w sane (gave Unset others) known = may-fail spec Undefined place (callee-done after w sane)
+    safe-tested after w sane (next others) known = may-fail spec Undefined place (callee-done after w sane)
+    safe-tested after w sane (returned slot others) known = may-fail spec Undefined place (callee-done after w sane)
+    safe-tested after w sane (exited v from others) known = absurd known
+
+    module _ (after : List Entry) (w : IsWithin (behind_activation before me op) after) (sane : IsSane after) where
+      safe-left_with : (declared : Option TypeTree) (slot : Slot) → IsKnownSlot after slot → IsSafeWith spec (Some 1) first after (left_with spec me op declared place slot locals)
+      safe-left_with None Unset known = safe-finished after w sane Unset locals tt (caller-done after w sane).known
+      safe-left_with None (Held v) known = may-fail spec TypeFault place (callee-done after w sane)
+      safe-left_with (Some declared) Unset known = may-fail spec NoReturn place (callee-done after w sane)
+      safe-left_with (Some declared) (Held v) known =
+          bind-quiet (rules spec) MayLeave MayLeave (Some 1) after first (with_value place (finished_with me op))
+          (λ later flow x leaves. safe-tested later (within-then (behind_activation before me op) after later w x) leaves.0 flow leaves.1)
+          (fitted spec no_nest (Some op.class) declared place v locals) after
+          (safe-fitted spec (Some 0) after after here locals (at-start (caller-done after w sane)) no_nest (Some op.class) place v known declared)
 
       safe-ended : (flow : Flow) → GivesKnown after flow → IsSafeWith spec (Some 1) first after (ended spec me op operation.result_type place locals flow)
-      safe-ended (gave slot inner) known = may-fail spec Undefined place callee-done
-      safe-ended (next inner) known = safe-finished (tested spec op.class operation.result_type Unset) (tested-known spec after op.class operation.result_type Unset tt)
-      safe-ended (returned slot inner) known = safe-finished (tested spec op.class operation.result_type slot) (tested-known spec after op.class operation.result_type slot known.0)
-      safe-ended (exited v from inner) known =
-          safe-fin (exited v from locals) (known-on after (entry Main me (deed.Fin op) ∷ []) (behind_finish after me op) refl v known.0, at-end.may.known)
+      safe-ended (gave slot inner) known = may-fail spec Undefined place (callee-done after w sane)
+      safe-ended (next inner) known = safe-left_with operation.result_type Unset tt
+      safe-ended (returned slot inner) known = safe-left_with operation.result_type slot known.0
+      safe-ended (exited v from inner) known = absurd known
 
     safe-begun : (body : Body StmtTree) → IsSafeWith spec (Some 1) first (behind_activation before me op) (begun spec me own op operation.result_type place locals body)
     safe-begun (written body) = (callee-begun, λ after flow w leaves. safe-ended after w leaves.0 flow leaves.1)

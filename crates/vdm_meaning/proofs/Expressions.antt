@@ -16,8 +16,7 @@ use Rattle.value_parts.proofs.WayObjects.{literal_keeps}
 use Rattle.run_journal.specs.declared.entry.Entry.{Entry}
 use Rattle.vdm_legal.proofs.Known.{IsThere}
 use Rattle.node_meaning.specs.Envs.{Here, Locals, local_named, result_name}
-use Rattle.node_meaning.specs.Fitting.{fitting_in}
-use Rattle.node_meaning.specs.Records.{changed, field_exprs, field_names, record_changed, record_made, record_of_type, record_type}
+use Rattle.node_meaning.specs.Records.{field_exprs, field_names, record_changed, record_made, record_type}
 use Rattle.node_meaning.specs.Tasks.{evaluated, value_or_fault}
 use Rattle.node_meaning.specs.Calls.{a_value}
 use Rattle.node_meaning.specs.Strict.{Strict, a_component, a_map, a_sequence, a_set, a_subsequence, a_token, a_tuple, maplet_exprs, strict, two_operands}
@@ -27,8 +26,8 @@ use Rattle.vdm_meaning.specs.Main.{of_thread}
 use Rattle.vdm_meaning.proofs.Rules.{IsSafe}
 use Rattle.vdm_meaning.proofs.Parts.{IsAt, may-fail, safe-become, safe-evaluated, safe-value}
 use Rattle.vdm_meaning.proofs.Strict.{safe-collected, safe-strict, safe-value_or_fault}
-use Rattle.vdm_meaning.proofs.Fitting.{safe-fit_answer}
-use Rattle.vdm_meaning.proofs.Records.{changed_keeps, record_of_type_keeps}
+use Rattle.vdm_meaning.proofs.Fitting.{safe-fit_value}
+use Rattle.vdm_meaning.proofs.Records.{safe-record_changed, safe-record_of_type}
 use Rattle.vdm_meaning.proofs.Choosing.{safe-choosing}
 use Rattle.vdm_meaning.proofs.Names.{local-known, safe-held, safe-name, safe-selected, safe-value_named}
 use Rattle.vdm_meaning.proofs.Applications.{safe-application, safe-created_with}
@@ -46,10 +45,10 @@ module _ (spec : SpecTree) (first now : List Entry) (here : Here) (locals : Loca
   safe-chosen : (place : Place) (binds : BindTrees) (chooser : Chooser) → IsSafe spec first now (choosing spec here place binds chooser locals)
   safe-chosen place binds chooser = safe-choosing spec first here place now binds chooser locals is_at
 
-  safe-fit : (tree : ExprTree) (t : TypeTree) (place : Place) → IsSafe spec first now (evaluated here locals tree place (fit_value spec here.scope t place))
+  safe-fit : (tree : ExprTree) (t : TypeTree) (place : Place) → IsSafe spec first now (evaluated here locals tree place (fit_value spec here.nest here.scope t place))
   safe-fit tree t place =
-      safe-evaluated spec first now here locals tree place (fit_value spec here.scope t place) is_at (λ later v after w at_later known.
-      safe-fit_answer spec at_later place (fitting_in spec here.scope t v))
+      safe-evaluated spec (Some 3) first now here locals tree place (fit_value spec here.nest here.scope t place) is_at (λ later v after w at_later known.
+      safe-fit_value spec (Some 3) first later here after at_later here.nest here.scope place v known t)
 
   pub safe-expr : (tree : ExprTree) → IsSafe spec first now (expr_plan (of_thread spec) here locals tree)
   safe-expr (literal tree place) = safe-literal tree place
@@ -72,18 +71,18 @@ module _ (spec : SpecTree) (first now : List Entry) (here : Here) (locals : Loca
   safe-expr (make_tuple parts place) = safe-strictly a_tuple place parts
   safe-expr (make_token inner place) = safe-strictly a_token place (one_expr inner no_exprs)
   safe-expr (make_record t arguments place) =
-      safe-collected spec first now here place arguments [] (record_made spec here.scope t place) locals is_at tt (λ later vs after w at_later known.
-      safe-value_or_fault spec place (record_of_type spec (record_type spec here.scope t) vs) at_later (record_of_type_keeps (IsThere later) spec (record_type spec here.scope t) vs known))
+      safe-collected spec (Some 3) first now here place arguments [] (record_made spec here.nest here.scope t place) locals is_at tt (λ later vs after w at_later known.
+      safe-record_of_type spec first here place later here.nest (record_type spec here.scope t) vs after at_later known)
   safe-expr (modify_record target changes place) =
-      safe-collected spec first now here place (one_expr target (field_exprs changes)) [] (record_changed spec (field_names changes) place) locals is_at tt (λ later vs after w at_later known.
-      safe-value_or_fault spec place (changed spec (field_names changes) vs) at_later (changed_keeps (IsThere later) spec (field_names changes) vs known))
+      safe-collected spec (Some 3) first now here place (one_expr target (field_exprs changes)) [] (record_changed spec here.nest (field_names changes) place) locals is_at tt (λ later vs after w at_later known.
+      safe-record_changed spec first here place later here.nest (field_names changes) vs after at_later known)
   safe-expr (is_of_type tree t place) = safe-fit tree t place
   safe-expr (is_of_named t tree place) = safe-fit tree (named_type t place) place
   safe-expr (is_of_basic basic tree place) = safe-fit tree (basic_type basic place) place
   safe-expr (create class class_place arguments place) = safe-created_with spec first now here place locals is_at arguments class
   safe-expr (apply head arguments place) = safe-application spec first now here head arguments place a_value locals is_at
   safe-expr (select target name name_place place) =
-      safe-evaluated spec first now here locals target place (selected (of_thread spec) place name) is_at (λ later v after w at_later known.
+      safe-evaluated spec (Some 3) first now here locals target place (selected (of_thread spec) place name) is_at (λ later v after w at_later known.
       safe-selected spec first later here place after at_later name v known)
   safe-expr (subsequence target from to place) = safe-strictly a_subsequence place (one_expr target (one_expr from (one_expr to no_exprs)))
   safe-expr (select_part target number place) = safe-strictly (a_component number) place (one_expr target no_exprs)
@@ -94,7 +93,7 @@ module _ (spec : SpecTree) (first now : List Entry) (here : Here) (locals : Loca
   safe-expr (if_else condition then_tree elseifs otherwise place) =
       safe-branches spec first here place (one_branch condition then_tree elseifs) now otherwise locals is_at
   safe-expr (cases_of subject alternatives others place) =
-      safe-evaluated spec first now here locals subject place (cases_met spec here place alternatives others (length locals)) is_at (λ later v after w at_later known.
+      safe-evaluated spec (Some 3) first now here locals subject place (cases_met spec here place alternatives others (length locals)) is_at (λ later v after w at_later known.
       safe-cases_met spec first here place alternatives later others (length locals) v after at_later known)
   safe-expr (for_all binds condition place) = safe-chosen place binds (for_each condition)
   safe-expr (exists_some binds condition place) = safe-chosen place binds (for_some condition)

@@ -23,5 +23,6 @@ pub mod Runs
 pub mod Statements
 pub mod Strict
 pub mod TaskPlans
+pub mod TestedValues
 pub mod WorkedCounter
 pub mod WorkedSums

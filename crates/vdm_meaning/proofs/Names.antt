@@ -83,7 +83,7 @@ module _ (spec : SpecTree) (first now : List Entry) (here : Here) (place : Place
   safe-read_found (Some var) = safe-read_held var here.me here.held is_at.may.me is_at.may.held
 
   safe-member_value : (scope : Option Name) (name : Name) (found : Option VarRef) → IsSafe spec first now (member_value (of_thread spec) here place scope name found locals)
-  safe-member_value scope name (Some ref) = safe-class_value spec first now here ref place here.depth locals is_at
+  safe-member_value scope name (Some ref) = safe-class_value spec first now here ref place here.nest locals is_at
   safe-member_value scope name None = safe-read_found (variable_in spec scope name)
 
   pub safe-value_named : (scope : Option Name) (name : Name) → IsSafe spec first now (value_named (of_thread spec) here place scope name locals)

@@ -1,5 +1,5 @@
 -- Parts of plans that keep the rules: where a plan stands, how it fails, and expressions whose value is wanted.
-use Rattle.std.proofs.Common.{◌≡◌, ◌++◌, if◌then◌else◌, Bool, List, None, Option, Some, false, take, true, ℕ}
+use Rattle.std.proofs.Common.{◌≡◌, ◌++◌, [], if◌then◌else◌, Bool, List, None, Option, Some, false, take, true, ℕ}
 use Rattle.std.specs.List.{AllByRecursion as Each}
 use Rattle.vdm_kinds.specs.declared.member.VarRef.{VarRef}
 use Rattle.vdm_kinds.specs.declared.name.Name.{Name}
@@ -18,7 +18,7 @@ use Rattle.vdm_legal.proofs.Known.{IsKnown, IsKnownSlot, each_wider, known-on, s
 use Rattle.vdm_legal.proofs.Sanity.{IsSane, IsWithin, within-self, within-then}
 use Rattle.node_meaning.specs.Faults.{fault_at}
 use Rattle.node_meaning.specs.Tasks.{Code, Flow, cut_to, evaluated, exited, expr_in, gave, next, returned, value, with_value}
-use Rattle.node_meaning.specs.Envs.{Locals, Here, Held, at}
+use Rattle.node_meaning.specs.Envs.{Locals, Nest, Here, Held, at, inside_class}
 use Rattle.vdm_meaning.proofs.Rules.{AreKnown, GivesKnown, HasObject, HoldsKnown, IsSafe, IsSafeWith, MayFail, MayRun}
 
 -- ---- what is known behind some entries is known behind later ones
@@ -90,6 +90,13 @@ at-among is_at others known = record {
 pub at-behind : {first now later : List Entry} {here : Here} {locals : Locals} → IsAt first now here locals → IsWithin now later → IsSane later → (others : Locals) → AreKnown later others → IsAt first later here others
 at-behind is_at w sane others known = at-among (at-later is_at w sane) others known
 
+-- in a function, a class value or an invariant of a type, which stand on no object
+pub at-inside : {first now : List Entry} {here : Here} {locals : Locals} (class : Name) (nest : Nest) → IsAt first now here locals → IsAt first now (inside_class class nest) []
+at-inside class nest is_at = record {
+  within = is_at.within;
+  may = record { sane = is_at.may.sane; main = is_at.may.main; me = tt; held = tt; known = tt };
+}
+
 -- the first so many of known locals are known
 cut-known : (now : List Entry) (count : ℕ) (locals : Locals) → AreKnown now locals → AreKnown now (take count locals)
 cut-known now count locals known = each_take (λ (l : Name × Slot). IsKnownSlot now l.1) count locals known
@@ -106,17 +113,17 @@ may-fail spec kind place h = record { ready = h.main; sane = h.sane }
 -- ---- what is done next
 
 -- what is done from any known locals behind any later entries keeps the rules
-abbrev pub Goes : SpecTree → List Entry → Here → List Entry → (Locals → Code) → Type 0
-Goes spec first here now f =
-    (later : List Entry) (locals : Locals) → IsWithin now later → IsAt first later here locals → IsSafe spec first later (f locals)
+abbrev pub Goes : SpecTree → Option ℕ → List Entry → Here → List Entry → (Locals → Code) → Type 0
+Goes spec n first here now f =
+    (later : List Entry) (locals : Locals) → IsWithin now later → IsAt first later here locals → IsSafeWith spec n first later (f locals)
 
 -- ... and with anything that has a property
-abbrev pub GoesWith : {X : Type 0} → (List Entry → X → Type 0) → SpecTree → List Entry → Here → List Entry → (X → Locals → Code) → Type 0
-GoesWith {X} Q spec first here now f =
-    (later : List Entry) (x : X) (locals : Locals) → IsWithin now later → IsAt first later here locals → Q later x → IsSafe spec first later (f x locals)
+abbrev pub GoesWith : {X : Type 0} → (List Entry → X → Type 0) → SpecTree → Option ℕ → List Entry → Here → List Entry → (X → Locals → Code) → Type 0
+GoesWith {X} Q spec n first here now f =
+    (later : List Entry) (x : X) (locals : Locals) → IsWithin now later → IsAt first later here locals → Q later x → IsSafeWith spec n first later (f x locals)
 
-pub goes-later : {X : Type 0} (Q : List Entry → X → Type 0) (spec : SpecTree) (first : List Entry) (here : Here) (now later : List Entry) (f : X → Locals → Code) → IsWithin now later → GoesWith Q spec first here now f → GoesWith Q spec first here later f
-goes-later Q spec first here now later f w goes end x locals v is_at q = goes end x locals (within-then now later end w v) is_at q
+pub goes-later : {X : Type 0} (Q : List Entry → X → Type 0) (spec : SpecTree) (n : Option ℕ) (first : List Entry) (here : Here) (now later : List Entry) (f : X → Locals → Code) → IsWithin now later → GoesWith Q spec n first here now f → GoesWith Q spec n first here later f
+goes-later Q spec n first here now later f w goes end x locals v is_at q = goes end x locals (within-then now later end w v) is_at q
 
 -- ---- values
 
@@ -135,22 +142,22 @@ module _ (spec : SpecTree) (n : Option ℕ) where
   safe-with_value place further (returned slot after) is_at known goes = may-fail spec Undefined place is_at.may
   safe-with_value place further (exited v from after) is_at known goes = (is_at.within, (is_at.may.sane, known))
 
-module _ (spec : SpecTree) where
-  pub safe-if : (first now : List Entry) (b : Bool) (p q : Code) → IsSafe spec first now p → IsSafe spec first now q → IsSafe spec first now (if b then p else q)
+  pub safe-if : (first now : List Entry) (b : Bool) (p q : Code) → IsSafeWith spec n first now p → IsSafeWith spec n first now q → IsSafeWith spec n first now (if b then p else q)
   safe-if first now true p q h k = h
   safe-if first now false p q h k = k
 
   -- ---- parts
 
   -- an expression, and what is done with its value
-  pub safe-evaluated : (first now : List Entry) (here : Here) (locals : Locals) (tree : ExprTree) (place : Place) (further : ValueTree → Locals → Code) → IsAt first now here locals → GoesWith IsKnown spec first here now further → IsSafe spec first now (evaluated here locals tree place further)
+  pub safe-evaluated : (first now : List Entry) (here : Here) (locals : Locals) (tree : ExprTree) (place : Place) (further : ValueTree → Locals → Code) → IsAt first now here locals → GoesWith IsKnown spec n first here now further → IsSafeWith spec n first now (evaluated here locals tree place further)
   safe-evaluated first now here locals tree place further is_at goes = (
     is_at.may,
     λ later flow w leaves.
-        safe-with_value spec (Some 3) place further flow (at-later is_at w leaves.0) leaves.1
+        safe-with_value place further flow (at-later is_at w leaves.0) leaves.1
         (λ v after known others. goes later v after w (at-behind is_at w leaves.0 after others) known),
   )
 
+module _ (spec : SpecTree) where
   -- an expression in the place of the node
   pub safe-become : (first now : List Entry) (here : Here) (locals : Locals) (tree : ExprTree) → IsAt first now here locals → IsSafe spec first now (become (expr_in (at here locals) tree))
   safe-become first now here locals tree is_at = (is_at.may, λ later flow w leaves. (within-then first now later is_at.within w, leaves))
@@ -159,7 +166,7 @@ module _ (spec : SpecTree) where
   safe-cut {now = now} count (gave slot after) is_at known = (is_at.within, (is_at.may.sane, (known.0, cut-known now count after known.1)))
   safe-cut {now = now} count (next after) is_at known = (is_at.within, (is_at.may.sane, cut-known now count after known))
   safe-cut {now = now} count (returned slot after) is_at known = (is_at.within, (is_at.may.sane, (known.0, cut-known now count after known.1)))
-  safe-cut {now = now} count (exited v from after) is_at known = (is_at.within, (is_at.may.sane, (known.0, cut-known now count after known.1)))
+  safe-cut count (exited v from after) is_at known = (is_at.within, (is_at.may.sane, known))
 
   -- ... without the locals that were bound for it
   pub safe-within : (first now : List Entry) (here : Here) (count : ℕ) (body : ExprTree) (locals : Locals) → IsAt first now here locals → IsSafe spec first now (part (expr_in (at here locals) body) (cut_to count))

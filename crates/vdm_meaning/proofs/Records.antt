@@ -1,32 +1,28 @@
--- Records are made of known values and have known fields.
+-- Records keep the rules: they are made of known values and have known fields.
 use Rattle.std.proofs.Common.{◌∷◌, [], Bool, IfOk, IfSome, List, None, Ok, Option, Some, false, if◌then◌else◌, option_map, true, ℕ}
 use Rattle.std.specs.List.{AllByRecursion as Each}
 use Rattle.std.specs.Option.{option_and_then}
 use Rattle.vdm_kinds.specs.declared.name.Name.{Name}
-use Rattle.vdm_kinds.specs.declared.run_fault.RunFault.{RunFault}
+use Rattle.vdm_kinds.specs.declared.place.Place.{Place}
+use Rattle.vdm_kinds.specs.declared.run_fault.RunFault.TheVariants.{TypeFault, Undefined}
 use Rattle.abstract_syntax.specs.Classes.{FieldTree, SpecTree, is_same_name}
 use Rattle.abstract_syntax.specs.Values.{ValueTree, ValueTrees, record_of, value_list, value_trees}
 use Rattle.pattern_meaning.specs.RecordTypes.{RecordType}
-use Rattle.value_operators.specs.Outcomes.{Outcome, sized}
+use Rattle.value_operators.specs.Outcomes.{sized}
 use Rattle.value_parts.specs.Objects.{EachObject, EachObjectIn}
 use Rattle.value_parts.proofs.Gathered.{gathered, listed, sized_keeps}
-use Rattle.node_meaning.specs.Records.{changed, changed_record, field_among, field_in, field_value, fields_fault, fields_of, record_of_type, record_with, tested_again, unless_refused, with_field, with_fields_named}
+use Rattle.run_journal.specs.declared.entry.Entry.{Entry}
+use Rattle.vdm_legal.proofs.Known.{IsThere}
+use Rattle.vdm_legal.proofs.Sanity.{within-self, within-then}
+use Rattle.node_meaning.specs.Envs.{Here, Locals, Nest}
+use Rattle.node_meaning.specs.Records.{changed_record, field_among, field_in, field_value, fields_of, fields_typed, record_changed, record_of_type, record_value, record_with, tested_again, with_field, with_fields_named}
+use Rattle.node_meaning.specs.Tasks.{Code}
+use Rattle.vdm_meaning.proofs.Rules.{IsSafe}
+use Rattle.vdm_meaning.proofs.Parts.{EachKnown, Goes, IsAt, may-fail, values-on}
+use Rattle.vdm_meaning.proofs.Strict.{safe-value_or_fault}
+use Rattle.vdm_meaning.proofs.Fitting.{safe-typed}
 
 module _ (P : ℕ → Name → Type 0) where
-  unless_refused_keeps : (found : Option RunFault) (o : Outcome) → IfOk o (EachObject P) → IfOk (unless_refused found o) (EachObject P)
-  unless_refused_keeps None o h = h
-  unless_refused_keeps (Some kind) o h = tt
-
-  record_with_keeps : (spec : SpecTree) (class name : Name) (fields : Option (List FieldTree)) (vs : List ValueTree) → Each (EachObject P) vs → IfOk (record_with spec class name fields vs) (EachObject P)
-  record_with_keeps spec class name None vs h = tt
-  record_with_keeps spec class name (Some fields) vs h =
-      unless_refused_keeps (fields_fault spec class fields vs) (sized (record_of class name (value_trees vs)))
-      (sized_keeps P (record_of class name (value_trees vs)) (gathered P vs h))
-
-  pub record_of_type_keeps : (spec : SpecTree) (r : Option RecordType) (vs : List ValueTree) → Each (EachObject P) vs → IfOk (record_of_type spec r vs) (EachObject P)
-  record_of_type_keeps spec None vs h = tt
-  record_of_type_keeps spec (Some r) vs h = record_with_keeps spec r.class r.name (fields_of spec r.class r.name) vs h
-
   -- ---- fields
 
   field_in_keeps : (name : Name) (fields : List FieldTree) (vs : List ValueTree) → Each (EachObject P) vs → IfOk (field_in name fields vs) (EachObject P)
@@ -70,16 +66,42 @@ module _ (P : ℕ → Name → Type 0) where
       (λ us also. with_fields_named_keeps fields names vs us h.1 also)
   with_fields_named_keeps fields _ _ ws h k = tt
 
-  tested_again_keeps : (spec : SpecTree) (class type : Name) (fields : List FieldTree) (found : Option (List ValueTree)) → IfSome found (Each (EachObject P)) → IfOk (tested_again spec class type fields found) (EachObject P)
-  tested_again_keeps spec class type fields None h = tt
-  tested_again_keeps spec class type fields (Some vs) h = record_with_keeps spec class type (Some fields) vs h
+-- ---- plans
 
-  changed_record_keeps : (spec : SpecTree) (class type : Name) (fields : Option (List FieldTree)) (names : List Name) (vs ws : List ValueTree) → Each (EachObject P) vs → Each (EachObject P) ws → IfOk (changed_record spec class type fields names vs ws) (EachObject P)
-  changed_record_keeps spec class type None names vs ws h k = tt
-  changed_record_keeps spec class type (Some fields) names vs ws h k =
-      tested_again_keeps spec class type fields (with_fields_named fields names vs ws) (with_fields_named_keeps fields names vs ws h k)
+module _ (spec : SpecTree) (first : List Entry) (here : Here) (place : Place) where
+  safe-fields_typed : (fields : List FieldTree) (vs : List ValueTree) (now : List Entry) (nest : Nest) (class : Name) (further : Locals → Code) (locals : Locals) → IsAt first now here locals → EachKnown now vs → Goes spec (Some 3) first here now further → IsSafe spec first now (fields_typed spec nest class place fields vs further locals)
+  safe-fields_typed [] [] now nest class further locals is_at known goes = goes now locals (within-self now) is_at
+  safe-fields_typed (field ∷ fields) (v ∷ vs) now nest class further locals is_at known goes =
+      safe-typed spec (Some 3) first here now locals nest (Some class) field.declared place (λ fitting_v after. fields_typed spec nest class place fields vs further after) v is_at known.0 (λ later w after x at_later also.
+      safe-fields_typed fields vs later nest class further after at_later (values-on now later x vs known.1)
+      (λ end others y. goes end others (within-then now later end x y)))
+  safe-fields_typed _ _ now nest class further locals is_at known goes = may-fail spec TypeFault place is_at.may
 
-  pub changed_keeps : (spec : SpecTree) (names : List Name) (vs : List ValueTree) → Each (EachObject P) vs → IfOk (changed spec names vs) (EachObject P)
-  changed_keeps spec names (record_of class type values ∷ vs) h =
-      changed_record_keeps spec class type (fields_of spec class type) names vs (value_list values) h.1 (listed P values h.0)
-  changed_keeps spec names _ h = tt
+  safe-record_value : (now : List Entry) (class name : Name) (vs : List ValueTree) (locals : Locals) → IsAt first now here locals → EachKnown now vs → IsSafe spec first now (record_value class name place vs locals)
+  safe-record_value now class name vs locals is_at known =
+      safe-value_or_fault spec place (sized (record_of class name (value_trees vs))) is_at
+      (sized_keeps (IsThere now) (record_of class name (value_trees vs)) (gathered (IsThere now) vs known))
+
+  safe-record_with : (now : List Entry) (nest : Nest) (class name : Name) (fields : Option (List FieldTree)) (vs : List ValueTree) (locals : Locals) → IsAt first now here locals → EachKnown now vs → IsSafe spec first now (record_with spec nest class name place fields vs locals)
+  safe-record_with now nest class name None vs locals is_at known = may-fail spec Undefined place is_at.may
+  safe-record_with now nest class name (Some fields) vs locals is_at known =
+      safe-fields_typed fields vs now nest class (record_value class name place vs) locals is_at known (λ later after w at_later.
+      safe-record_value later class name vs after at_later (values-on now later w vs known))
+
+  pub safe-record_of_type : (now : List Entry) (nest : Nest) (found : Option RecordType) (vs : List ValueTree) (locals : Locals) → IsAt first now here locals → EachKnown now vs → IsSafe spec first now (record_of_type spec nest place found vs locals)
+  safe-record_of_type now nest None vs locals is_at known = may-fail spec Undefined place is_at.may
+  safe-record_of_type now nest (Some r) vs locals is_at known = safe-record_with now nest r.class r.name (fields_of spec r.class r.name) vs locals is_at known
+
+  safe-tested_again : (now : List Entry) (nest : Nest) (class type : Name) (fields : List FieldTree) (found : Option (List ValueTree)) (locals : Locals) → IsAt first now here locals → IfSome found (EachKnown now) → IsSafe spec first now (tested_again spec nest class type place fields found locals)
+  safe-tested_again now nest class type fields None locals is_at known = may-fail spec TypeFault place is_at.may
+  safe-tested_again now nest class type fields (Some vs) locals is_at known = safe-record_with now nest class type (Some fields) vs locals is_at known
+
+  safe-changed_record : (now : List Entry) (nest : Nest) (class type : Name) (fields : Option (List FieldTree)) (names : List Name) (vs ws : List ValueTree) (locals : Locals) → IsAt first now here locals → EachKnown now vs → EachKnown now ws → IsSafe spec first now (changed_record spec nest class type place fields names vs ws locals)
+  safe-changed_record now nest class type None names vs ws locals is_at known others = may-fail spec TypeFault place is_at.may
+  safe-changed_record now nest class type (Some fields) names vs ws locals is_at known others =
+      safe-tested_again now nest class type fields (with_fields_named fields names vs ws) locals is_at (with_fields_named_keeps (IsThere now) fields names vs ws known others)
+
+  pub safe-record_changed : (now : List Entry) (nest : Nest) (names : List Name) (vs : List ValueTree) (locals : Locals) → IsAt first now here locals → EachKnown now vs → IsSafe spec first now (record_changed spec nest names place vs locals)
+  safe-record_changed now nest names (record_of class type values ∷ vs) locals is_at known =
+      safe-changed_record now nest class type (fields_of spec class type) names vs (value_list values) locals is_at known.1 (listed (IsThere now) values known.0)
+  safe-record_changed now nest names _ locals is_at known = may-fail spec TypeFault place is_at.may

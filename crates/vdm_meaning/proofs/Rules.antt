@@ -12,7 +12,7 @@ use Rattle.run_journal.specs.declared.question.Question.TheVariants.{Fail}
 use Rattle.run_journal.specs.Parts.{object_part}
 use Rattle.plans.specs.Steps.{Rules, Safe}
 use Rattle.vdm_legal.specs.Ready.{IsReady}
-use Rattle.vdm_legal.proofs.Known.{IsKnown, IsKnownSlot}
+use Rattle.vdm_legal.proofs.Known.{IsKnownSlot}
 use Rattle.vdm_legal.proofs.Sanity.{IsSane, IsWithin}
 use Rattle.vdm_legal.proofs.Taken.{IsEntryFor}
 use Rattle.node_meaning.specs.Faults.{Fault}
@@ -74,11 +74,12 @@ MayBegin entries (stmt_in env tree) = MayRun entries env.here env.locals
 
 -- ---- results
 
+-- what is left is known; so far nothing exits
 abbrev pub GivesKnown : List Entry → Flow → Type 0
 GivesKnown entries (gave slot locals) = IsKnownSlot entries slot × AreKnown entries locals
 GivesKnown entries (next locals) = AreKnown entries locals
 GivesKnown entries (returned slot locals) = IsKnownSlot entries slot × AreKnown entries locals
-GivesKnown entries (exited v from locals) = IsKnown entries v × AreKnown entries locals
+GivesKnown entries (exited v from locals) = ⊥
 
 abbrev pub MayLeave : List Entry → Flow → Type 0
 MayLeave entries flow = IsSane entries × GivesKnown entries flow

@@ -15,17 +15,15 @@ use Rattle.run_journal.specs.Made.{entry}
 use Rattle.run_journal.specs.Parts.{object_part}
 use Rattle.run_journal.specs.declared.deed.Deed.TheVariants as deed
 use Rattle.run_journal.specs.declared.write.Write.{Write as Pair}
-use Rattle.plans.specs.Plans.{ask}
-use Rattle.vdm_legal.proofs.Known.{IsKnown}
+use Rattle.vdm_legal.proofs.Known.{IsKnown, there-on}
 use Rattle.vdm_legal.proofs.Sanity.{IsQuiet, quiet-sane, quiet-within, within-self}
-use Rattle.node_meaning.specs.Envs.{Here, Locals}
-use Rattle.node_meaning.specs.Tasks.{Code, Flow, exited, gave, next, noted, returned}
+use Rattle.node_meaning.specs.Envs.{Here, Locals, no_nest}
+use Rattle.node_meaning.specs.Tasks.{Code, Flow, exited, gave, next, returned}
 use Rattle.node_meaning.specs.Names.{variable_definition, variable_in}
-use Rattle.node_meaning.specs.Statements.{written, write_of, write_typed, write_found, assigned, called, unless_ended, sequence, return_value, returned_of, stmt_plan}
-use Rattle.node_meaning.specs.Fitting.{type_fault}
+use Rattle.node_meaning.specs.Statements.{written, write_asked, write_of, write_typed, write_found, assigned, called, unless_ended, sequence, return_value, returned_of, stmt_plan}
 use Rattle.vdm_meaning.proofs.Rules.{GivesKnown, HasObject, IsSafe, MayLeave}
 use Rattle.vdm_meaning.proofs.Parts.{Goes, IsAt, at-among, at-later, may-fail, safe-evaluated, safe-finish}
-use Rattle.vdm_meaning.proofs.Fitting.{safe-unless_fault}
+use Rattle.vdm_meaning.proofs.Fitting.{safe-typed}
 use Rattle.vdm_meaning.proofs.Asking.{safe-ask}
 
 write-quiet : (pairs : List Pair) (refused : Bool) → IsQuiet (deed.Write pairs refused)
@@ -34,7 +32,7 @@ write-quiet pairs refused = λ name. (refl, refl, refl)
 module _ (spec : SpecTree) (first : List Entry) (here : Here) where
   -- ---- assignments
 
-  safe-write : (now : List Entry) (me : ℕ) (var : VarRef) (place : Place) (v : ValueTree) (locals : Locals) → IsAt first now here locals → object_part me now ≢ [] → IsKnown now v → IsSafe spec first now (ask (noted (Write me (write_of var v ∷ []))) (written place locals))
+  safe-write : (now : List Entry) (me : ℕ) (var : VarRef) (place : Place) (v : ValueTree) (locals : Locals) → IsAt first now here locals → object_part me now ≢ [] → IsKnown now v → IsSafe spec first now (write_asked me var place v locals)
   safe-write now me var place v locals is_at there known =
       let pairs = write_of var v ∷ [] in
       let sane = quiet-sane now me (deed.Write pairs false) (write-quiet pairs false) is_at.may.sane (known, tt) refl in
@@ -46,8 +44,8 @@ module _ (spec : SpecTree) (first : List Entry) (here : Here) where
   safe-write_typed : (now : List Entry) (me : ℕ) (var : VarRef) (found : Option VariableTree) (place : Place) (v : ValueTree) (locals : Locals) → IsAt first now here locals → object_part me now ≢ [] → IsKnown now v → IsSafe spec first now (write_typed spec me var found place v locals)
   safe-write_typed now me var None place v locals is_at there known = may-fail spec Undefined place is_at.may
   safe-write_typed now me var (Some definition) place v locals is_at there known =
-      safe-unless_fault spec is_at place (type_fault spec (Some var.class) definition.declared v) (ask (noted (Write me (write_of var v ∷ []))) (written place locals))
-      (safe-write now me var place v locals is_at there known)
+      safe-typed spec (Some 3) first here now locals no_nest (Some var.class) definition.declared place (write_asked me var place) v is_at known (λ later fitting_v after w at_later also.
+      safe-write later me var place fitting_v after at_later (there-on now w.more later w.behind me there) also)
 
   safe-write_found : (now : List Entry) (me : Option ℕ) (found : Option VarRef) (place : Place) (v : ValueTree) (locals : Locals) → IsAt first now here locals → HasObject now me → IsKnown now v → IsSafe spec first now (write_found spec me found place v locals)
   safe-write_found now (Some me) (Some var) place v locals is_at there known = safe-write_typed now me var (variable_definition spec var) place v locals is_at there known
@@ -67,7 +65,7 @@ module _ (spec : SpecTree) (first : List Entry) (here : Here) where
   safe-called (returned slot after) is_at known = (is_at.within, (is_at.may.sane, known))
   safe-called (exited v from after) is_at known = (is_at.within, (is_at.may.sane, known))
 
-  safe-unless_ended : (now : List Entry) (locals : Locals) (others : Locals → Code) (flow : Flow) → IsAt first now here locals → GivesKnown now flow → Goes spec first here now others → IsSafe spec first now (unless_ended others flow)
+  safe-unless_ended : (now : List Entry) (locals : Locals) (others : Locals → Code) (flow : Flow) → IsAt first now here locals → GivesKnown now flow → Goes spec (Some 3) first here now others → IsSafe spec first now (unless_ended others flow)
   safe-unless_ended now locals others (gave slot after) is_at known goes = (is_at.within, (is_at.may.sane, known))
   safe-unless_ended now locals others (next after) is_at known goes = goes now after (within-self now) (at-among is_at after known)
   safe-unless_ended now locals others (returned slot after) is_at known goes = (is_at.within, (is_at.may.sane, known))
@@ -85,12 +83,12 @@ module _ (spec : SpecTree) (first : List Entry) (here : Here) where
   safe-returned_of : (now : List Entry) (tree : Option ExprTree) (place : Place) (locals : Locals) → IsAt first now here locals → IsSafe spec first now (returned_of here tree place locals)
   safe-returned_of now None place locals is_at = safe-finish spec (Some 3) (returned Unset locals) is_at (tt, is_at.may.known)
   safe-returned_of now (Some tree) place locals is_at =
-      safe-evaluated spec first now here locals tree place return_value is_at (λ later v after w at_later known.
+      safe-evaluated spec (Some 3) first now here locals tree place return_value is_at (λ later v after w at_later known.
       safe-finish spec (Some 3) (returned (Held v) after) at_later (known, at_later.may.known))
 
   pub safe-statement : (now : List Entry) (locals : Locals) (statement : StmtTree) → IsAt first now here locals → IsSafe spec first now (stmt_plan spec here locals statement)
   safe-statement now locals (assign target tree place) is_at =
-      safe-evaluated spec first now here locals tree place (assigned spec here target place) is_at (λ later v after w at_later known.
+      safe-evaluated spec (Some 3) first now here locals tree place (assigned spec here target place) is_at (λ later v after w at_later known.
       safe-assigned later target place v after at_later known)
   safe-statement now locals (call tree place) is_at = (is_at.may, λ later flow w leaves. safe-called flow (at-later is_at w leaves.0) leaves.1)
   safe-statement now locals (block dcls statements place) is_at = safe-sequence statements now locals is_at

@@ -26,5 +26,5 @@ returns-in-ModifyRecord c =
     if_ok c.modify_record.result c.modify_record.ensures (λ s is setting locals.
     is setting locals
     ∙ ap (λ (changes : List FieldValue). collected (here_of c.args.here) c.in-ModifyRecord.place (one_expr (boxed_view c.in-ModifyRecord.target) (field_exprs (field_value_trees (map field_value_view changes)))) []
-    (record_changed setting.spec (field_names (field_value_trees (map field_value_view changes))) c.in-ModifyRecord.place) locals) c.as_slice-in-ModifyRecord.ensures.value
+    (record_changed setting.spec (here_of c.args.here).nest (field_names (field_value_trees (map field_value_view changes))) c.in-ModifyRecord.place) locals) c.as_slice-in-ModifyRecord.ensures.value
     ∙ sym (ap (expr_plan setting (here_of c.args.here) locals) (ap view_of c.in-ModifyRecord.is ∙ view-ModifyRecord _ _ _)))

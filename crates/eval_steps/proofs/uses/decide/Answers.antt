@@ -17,3 +17,8 @@ pub returns-in-Post : goal.returns-in-Post
 returns-in-Post c = λ asker.
     c.post_decided.ensures (set c.args.table.now asker)
     ∙ c.in-Post.ensures (set c.args.table.now asker) c.args.locals.now.items
+
+pub returns-in-Invariant : goal.returns-in-Invariant
+returns-in-Invariant c =
+    if_ok c.told.result c.told.ensures (λ s is asker.
+    is asker ∙ c.in-Invariant.ensures (set c.args.table.now asker) c.args.locals.now.items)

@@ -15,5 +15,5 @@ returns c =
     IfOk-weaker c.first_part.result _ _ (λ s is setting locals.
     is setting locals ∙
     ap (λ (tree : ExprTree). evaluated here locals tree c.args.place
-    (with_others here c.args.place (field_exprs changes) [] (record_changed setting.spec (field_names changes) c.args.place))) c.boxed.ensures)
+    (with_others here c.args.place (field_exprs changes) [] (record_changed setting.spec here.nest (field_names changes) c.args.place))) c.boxed.ensures)
     c.first_part.ensures

@@ -1,18 +1,20 @@
-use Rattle.std.proofs.Common.{[], ◌∷◌, Option, option_map, Bor, ap, sym, ◌∙◌}
-use Rattle.vdm_kinds.specs.declared.run_fault.RunFault.{RunFault}
-use Rattle.node_meaning.specs.Fitting.{unless_fault}
-use Rattle.node_meaning.specs.Statements.{write_of, write_typed, written}
-use Rattle.node_meaning.specs.Tasks.{noted}
-use Rattle.plans.specs.Plans.{ask}
-use Rattle.run_journal.specs.declared.question.Question.TheVariants.{Write}
+use Rattle.std.proofs.Common.{Option, Some, option_map, Bor, ap, sym, ◌∙◌}
+use Rattle.type_tree.specs.TypeView.{type_view}
+use Rattle.node_meaning.specs.Envs.{Nest}
+use Rattle.node_meaning.specs.Fitting.{typed}
+use Rattle.node_meaning.specs.Needs.{thread}
+use Rattle.node_meaning.specs.Statements.{write_asked, write_typed}
+use Rattle.node_meaning.specs.Tasks.{Code, with_value}
+use Rattle.plans.specs.Plans.{bind}
 use Rattle.vdm_tree.specs.ClassView.{variable_view}
 use Rattle.vdm_tree.specs.declared.class_def.VarDef.{VarDef}
 use Rattle.spec_table.specs.Tables.{table_spec}
 use Rattle.stmt_steps.proofs.assignment.write_typed.Goals as goal
 
 pub returns-clause-same : goal.returns-clause-same
-returns-clause-same c = λ locals.
+returns-clause-same c =
     let spec = table_spec c.args.table.now in
-    c.asked_for.ensures.same spec locals
-    ∙ ap (λ (fault : Option RunFault). unless_fault c.args.place fault (ask (noted (Write c.args.me (write_of c.args.var c.args.value ∷ []))) (written c.args.place locals))) c.in_ok-fault.ensures
-    ∙ ap (λ (d : Option (Bor VarDef)). write_typed spec c.args.me c.args.var (option_map (λ (v : Bor VarDef). variable_view v.now) d) c.args.place c.args.value locals) (sym c.in-Some.is)
+    c.tested_write.ensures.same spec c.fitted.new.locals.items
+    ∙ ap (λ (code : Code). bind code (with_value c.args.place (write_asked c.args.me c.args.var c.args.place))) (c.in_ok-tested.ensures thread)
+    ∙ ap (λ (nest : Nest). typed spec nest (Some c.args.var.class) (type_view c.in-Some.definition.now.declared) c.args.place (write_asked c.args.me c.args.var c.args.place) c.args.value c.args.locals.now.items) c.none-nest.ensures
+    ∙ ap (λ (d : Option (Bor VarDef)). write_typed spec c.args.me c.args.var (option_map (λ (v : Bor VarDef). variable_view v.now) d) c.args.place c.args.value c.args.locals.now.items) (sym c.in-Some.is)

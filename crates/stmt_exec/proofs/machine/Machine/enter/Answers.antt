@@ -1,16 +1,34 @@
 use Rattle.spec_table.specs.Tables.{table_spec}
+use Rattle.node_meaning.specs.Tasks.{placed}
+use Rattle.eval_data.specs.Parts.{nest_of}
+use Rattle.step_data.specs.declared.level.Level.{Level}
+use Rattle.step_data.specs.Actions.{waiting_then}
+use Rattle.step_data.specs.Parts.{task_of}
 use Rattle.stmt_exec.proofs.Resting.{entered, spent_fails}
 use Rattle.stmt_exec.proofs.Running.{entered-low, entered-falls}
 use Rattle.stmt_exec.proofs.machine.Machine.enter.Goals as goal
 
 pub returns-in-Some-clause-same : goal.returns-in-Some-clause-same
-returns-in-Some-clause-same c = entered (table_spec c.args.self.now.table.now) c.args.self.now.waiting.items c.push.new.self.items c.args.self.now.locals.items _ c.args.self.now.fuel c.in-Some.left c.args.waiting c.args.task c.plan_of.result c.in-Some.ensures c.in_ok-push-in-Some.ensures.items c.plan_of.ensures.same
+returns-in-Some-clause-same c =
+    let level : Level = record { nest = c.args.self.now.nest; waiting = c.args.waiting } in
+    entered (table_spec c.args.self.now.table.now) c.args.self.now.levels.items c.push.new.self.items c.planned.new.nest c.planned.new.locals.items c.args.self.now.fuel c.in-Some.left level
+    (task_of c.args.task c.args.self.now.locals.items) c.planned.result c.in-Some.ensures c.in_ok-push-in-Some.ensures.items c.planned.ensures.same
 
 pub returns-clause-same : goal.returns-clause-same
-returns-clause-same c = λ answers. spent_fails (table_spec c.args.self.now.table.now) c.args.self.now.waiting.items c.args.self.now.locals.items c.args.self.now.fuel c.args.waiting c.args.task c.place.result answers c.in-None.ensures (c.place.ensures c.args.self.now.locals.items)
+returns-clause-same c = λ answers.
+    let spec = table_spec c.args.self.now.table.now in
+    spent_fails spec c.args.self.now.levels.items c.args.self.now.fuel (task_of c.args.task c.args.self.now.locals.items)
+    (λ flow. placed (nest_of c.args.self.now.nest) (waiting_then spec c.args.waiting flow)) _ answers c.in-None.ensures
+    (c.unentered.ensures.same spec c.args.self.now.locals.items)
 
 pub returns-in-Some-clause-low : goal.returns-in-Some-clause-low
-returns-in-Some-clause-low c = entered-low c.args.self.now.waiting.items c.push.new.self.items c.args.self.now.fuel c.in-Some.left c.args.waiting c.plan_of.result c.in-Some.ensures c.in_ok-push-in-Some.ensures.items c.plan_of.ensures.falls
+returns-in-Some-clause-low c =
+    let level : Level = record { nest = c.args.self.now.nest; waiting = c.args.waiting } in
+    entered-low c.args.self.now.levels.items c.push.new.self.items c.args.self.now.fuel c.in-Some.left level c.planned.result c.in-Some.ensures
+    c.in_ok-push-in-Some.ensures.items c.planned.ensures.falls
 
 pub returns-in-Some-clause-falls : goal.returns-in-Some-clause-falls
-returns-in-Some-clause-falls c = entered-falls c.args.self.now.waiting.items c.push.new.self.items c.args.self.now.fuel c.in-Some.left c.args.waiting c.plan_of.result c.in-Some.ensures c.in_ok-push-in-Some.ensures.items
+returns-in-Some-clause-falls c =
+    let level : Level = record { nest = c.args.self.now.nest; waiting = c.args.waiting } in
+    entered-falls c.args.self.now.levels.items c.push.new.self.items c.args.self.now.fuel c.in-Some.left level c.planned.result c.in-Some.ensures
+    c.in_ok-push-in-Some.ensures.items

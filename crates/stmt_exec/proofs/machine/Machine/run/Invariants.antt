@@ -8,10 +8,10 @@ use Rattle.stmt_exec.proofs.machine.Machine.run.Given as goal
 abbrev pub invariant-actions : goal.invariant-actions
 invariant-actions l = record {
   same : (answers : List Answer) → stands_with l.self l.action answers ≡ stands_with l.fn.self l.fn.action answers;
-  low : load l.self.waiting.items l.self.fuel (height l.action) ≤ load l.fn.self.waiting.items l.fn.self.fuel (height l.fn.action);
+  low : load l.self.levels.items l.self.fuel (height l.action) ≤ load l.fn.self.levels.items l.fn.self.fuel (height l.fn.action);
   table : l.self.table ≡ l.fn.self.table;
   rest : l.self.rest ≡ l.fn.self.rest;
 }
 
 abbrev pub decreases-actions : goal.decreases-actions
-decreases-actions l = load l.self.waiting.items l.self.fuel (busy l.action)
+decreases-actions l = load l.self.levels.items l.self.fuel (busy l.action)

@@ -1,0 +1,6 @@
+//! What of an expression is built so far: the place of the first form, in text order, that has no meaning yet.
+#![tactic(auto)]
+
+mod exprs;
+
+pub use exprs::{unbuilt_in_call, unbuilt_in_expr, unbuilt_in_pattern};

@@ -1,0 +1,19 @@
+use Rattle.std.proofs.Common.{length, ap, ◌∙◌, arith}
+use Rattle.spec_table.specs.Tables.{table_spec}
+use Rattle.step_data.specs.declared.making.Making.{Making}
+use Rattle.call_steps.proofs.Fitting.{asks_next, asked_last}
+use Rattle.call_steps.proofs.testing.test_slots.Goals as goal
+
+pub returns-in-Asks-clause-same : goal.returns-in-Asks-clause-same
+returns-in-Asks-clause-same c =
+    asks_next (table_spec c.args.table.now) c.args.making.value c.deref-in-loop-index.result.now c.loop-index.index c.deref-in-loop-index.ensures
+    c.loop-index.locals.items c.next_tried.new.locals.items c.in_ok-next_tried.field-0 c.in-Asks.here c.in-Asks.tree c.in-Asks.inner _ c.in-Asks.is
+    c.in_ok-next_tried.ensures c.loop-index.invariant.same
+
+pub returns-clause-same : goal.returns-clause-same
+returns-clause-same c =
+    c.object_asked.ensures.same (table_spec c.args.table.now) c.loop-index.locals.items
+    ∙ asked_last (table_spec c.args.table.now) c.args.making.value c.into_inner.result c.loop-index.index c.into_inner.ensures
+    c.loop-index.locals.items _
+    (omega (arith, c.loop-index-test.false, c.loop-index.auto.index-end, c.len-index-end.ensures, ap (λ (m : Making). length m.slots.items) c.deref.ensures))
+    c.loop-index.invariant.same

@@ -1,0 +1,18 @@
+-- What tests of slots come to.
+use Rattle.abstract_syntax.specs.Classes.{SpecTree}
+use Rattle.vdm_kinds.specs.declared.place.Place.{Place}
+use Rattle.plans.specs.Plans.{bind, part}
+use Rattle.node_meaning.specs.Envs.{Locals}
+use Rattle.node_meaning.specs.Tasks.{Code, fault, with_value}
+use Rattle.eval_data.specs.Steps.{frame_then}
+use Rattle.step_data.specs.Actions.{of_thread}
+use Rattle.step_data.specs.Parts.{expression_in}
+use Rattle.call_steps.specs.declared.testing.Tried.{Tried}
+use Rattle.call_steps.specs.declared.testing.Tried.TheVariants.{Passes, Fails, Asks}
+
+-- a test that is made at the place, and what follows where the slot passes it
+abbrev pub tried_code : SpecTree → Place → Locals → (Locals → Code) → Tried → Code
+tried_code spec place locals further Passes = further locals
+tried_code spec place locals further (Fails kind) = fault kind place
+tried_code spec place locals further (Asks here tree inner) =
+    bind (part (expression_in here tree locals) (frame_then (of_thread spec) inner)) (with_value place (λ v. further))
