@@ -37,6 +37,7 @@ each request of the table is; standard input gives nothing but where it is the T
     vdm check TEXT            standard input, where `\n` is a line feed and `\\` a backslash
     vdm run WORD TEXT         standard input likewise; WORD is the word behind `run` itself, as in `vdm run 1 TEXT`
     vdm run EXPR %| TEXT      the word behind `run`, and behind ` %| ` standard input likewise
+    vdm WORDS %| TEXT         `vdm` and words, and behind ` %| ` standard input likewise
     vdm check BYTES           how many bytes standard input gives, the first of `counter.vdmpp`
 
 A line `let NAME = TEXT` in column 1, without an answer, defines a text for the lines below it. In requests and in such
@@ -364,6 +365,13 @@ def by_text(words, text):
     return words, re.sub(r"\\[n\\]", lambda found: "\n" if found[0] == "\\n" else "\\", text).encode()
 
 
+def by_words_over(text):
+    words, bar, over = text.partition(" %| ")
+    if not bar:
+        raise BadCase("words and their text have ' %| ' between them")
+    return by_text(words_of(words), over)
+
+
 def by_bytes(text):
     return [b"check"], COUNTER.read_bytes()[: number_of(text)]
 
@@ -372,6 +380,7 @@ REQUESTS = {
     "vdm run EXPR": by_expression,
     "vdm run EXPR %| TEXT": by_expression_over,
     "vdm WORDS": by_words,
+    "vdm WORDS %| TEXT": by_words_over,
     "vdm check TEXT": partial(by_text, [b"check"]),
     "vdm check BYTES": by_bytes,
 }

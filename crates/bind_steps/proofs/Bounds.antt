@@ -70,3 +70,22 @@ pub bound_where_found : (place : Place) (matched missed : Locals → Code) (foun
 bound_where_found place matched missed found b old new is w e =
     ap matched e ∙ if_true (are_within_limits b) (matched (old ++ bound_locals b)) (fault SizeLimit place) (all_within b w)
     ∙ ap (λ (o : Option Binding). bound_or place o matched missed old) is
+
+-- ---- a name alone, which is bound to a copy of the value
+
+pub name_past : (place : Place) (matched missed : Locals → Code) (name : Name) (v u : ValueTree) (kind : RunFault) (locals : Locals) → u ≡ v → kind ≡ SizeLimit
+    → IsTooLarge u → fault kind place ≡ bound_or place (Some ((name, v) ∷ [])) matched missed locals
+name_past place matched missed name v u kind locals copied is large =
+    ap (λ (k : RunFault). fault k place) is
+    ∙ if_false (are_within_limits ((name, u) ∷ [])) (matched (locals ++ bound_locals ((name, u) ∷ []))) (fault SizeLimit place)
+    (left_fails (is_within_limits u) true (past u large))
+    ∙ ap (λ (x : ValueTree). bound_or place (Some ((name, x) ∷ [])) matched missed locals) copied
+
+pub name_within : (place : Place) (matched missed : Locals → Code) (name : Name) (v u w : ValueTree) (old new : Locals) → u ≡ v → w ≡ u → IsValueWithinLimits u
+    → new ≡ old ++ bound_locals ((name, w) ∷ []) → matched new ≡ bound_or place (Some ((name, v) ∷ [])) matched missed old
+name_within place matched missed name v u w old new copied is small e =
+    ap matched e
+    ∙ ap (λ (x : ValueTree). matched (old ++ bound_locals ((name, x) ∷ []))) is
+    ∙ if_true (are_within_limits ((name, u) ∷ [])) (matched (old ++ bound_locals ((name, u) ∷ []))) (fault SizeLimit place)
+    (both (is_within_limits u) true (within u small) refl)
+    ∙ ap (λ (x : ValueTree). bound_or place (Some ((name, x) ∷ [])) matched missed old) copied

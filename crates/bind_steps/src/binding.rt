@@ -1,6 +1,9 @@
 // What patterns bind.
 
-ghost use Rattle.std.specs.Prelude.{◌≡◌, [], ◌∷◌, ◌++◌, map, IfOk, IfSome, IsSomeAnd, Err};
+ghost use Rattle.std.specs.Prelude.{◌≡◌, List, [], ◌∷◌, ◌++◌, map, Option, Some, IfOk, IfSome, IsSomeAnd, Err};
+ghost use Rattle.abstract_syntax.specs.Classes.{SpecTree};
+ghost use Rattle.abstract_syntax.specs.Values.{ValueTree};
+ghost use Rattle.vdm_kinds.specs.declared.name.Name.{Name as NameOf};
 ghost use Rattle.vdm_kinds.specs.declared.halt.Halt.{Halt};
 ghost use Rattle.vdm_kinds.specs.declared.place.Place.{Place};
 ghost use Rattle.vdm_kinds.specs.declared.run_fault.RunFault.TheVariants.{SizeLimit};
@@ -19,6 +22,7 @@ use patterns::{BindList, bind_all};
 use spec_table::ClassTable;
 use std::alloc::Global;
 use vdm_kinds::{Halt, Name, OutOfMemory, RunFault};
+use vdm_sets::within_limits;
 use vdm_values::{Slot, Value, ValueList};
 
 /// The first binding of patterns with values, where a name of a type means what it means in the class of the node. `given` has the
@@ -81,6 +85,59 @@ pub fn push_shared(
 
 /// Patterns meet values: where they match, what they bind stands behind the locals.
 pub fn bound_or(
+    alloc: Global,
+    table: &ClassTable,
+    scope: Option<Name>,
+    patterns: &[&Pattern],
+    given: &ValueList,
+    values: &[&Value],
+    locals: &mut Vec<(Name, Slot)>,
+) -> Result<Attempt, OutOfMemory>
+    ensures { IfOk result (λ attempt. (place : Place) (matched missed : Locals → Code) → attempted place attempt matched missed locals.new.items ≡ bound_or place (first_match (table_spec table.now) scope (patterns_at patterns.now) given.now (map (λ v. v.now) values.now)) matched missed locals.old.items) }
+{
+    match lone_name(patterns, values) {
+        Some((name, value)) => name_bound(alloc, locals, name, value),
+        None => searched(alloc, table, scope, patterns, given, values, locals),
+    }
+}
+
+/// The name and its value, where the patterns are one name: that needs no search.
+fn lone_name<'v>(patterns: &[&Pattern], values: &[&'v Value]) -> Option<(Name, &'v Value)>
+    ensures { IfSome result (λ found. (spec : SpecTree) (scope : Option NameOf) (given : List ValueTree) → first_match spec scope (patterns_at patterns.now) given (map (λ v. v.now) values.now) ≡ Some ((found.0, found.1.now) ∷ [])) }
+{
+    let [pattern] = patterns else {
+        return None;
+    };
+    let [value, ..] = values else {
+        return None;
+    };
+    match pattern {
+        Pattern::Bound(name, _) => Some((*name, *value)),
+        _ => None,
+    }
+}
+
+/// A name is bound to a value.
+fn name_bound(
+    alloc: Global,
+    locals: &mut Vec<(Name, Slot)>,
+    name: Name,
+    value: &Value,
+) -> Result<Attempt, OutOfMemory>
+    ensures { IfOk result (λ attempt. (place : Place) (matched missed : Locals → Code) → attempted place attempt matched missed locals.new.items ≡ bound_or place (Some ((name, value.now) ∷ [])) matched missed locals.old.items) }
+{
+    match within_limits(value.copy(alloc)?) {
+        Ok(value) => {
+            push_shared(alloc, locals, name, value)?;
+            Ok(Attempt::Matched)
+        }
+        Err(Halt::Of(kind)) => Ok(Attempt::Fault(kind)),
+        Err(Halt::OutOfMemory) => Err(OutOfMemory),
+    }
+}
+
+/// The first binding is searched for.
+fn searched(
     alloc: Global,
     table: &ClassTable,
     scope: Option<Name>,

@@ -1,42 +1,24 @@
 // Variables and operations: the first form that is not built.
 
 ghost use Rattle.std.specs.Prelude.{◌≡◌, ◌&&◌, not, map, option_map};
-ghost use Rattle.text_phases.specs.Built.{unless, is_same_place, lacks_initial, unbuilt_in_variable, unbuilt_in_item, unbuilt_in_items, is_public, is_constructor, lacks_body, unbuilt_in_parameters, unbuilt_in_parameter_patterns, unbuilt_in_body, unbuilt_in_condition, unbuilt_in_head, unbuilt_behind_head, unbuilt_in_operation, unbuilt_in_operations};
-ghost use Rattle.type_tree.specs.TypeView.{type_view, type_views};
-ghost use Rattle.expr_tree.specs.View.{view_of, boxed_view, pattern_views};
+ghost use Rattle.text_phases.specs.Built.{unbuilt_in_variable, unbuilt_in_item, unbuilt_in_items, is_constructor, unbuilt_in_parameters, unbuilt_in_parameter_patterns, unbuilt_in_body, unbuilt_in_condition, unbuilt_in_head, unbuilt_behind_head, unbuilt_in_operation, unbuilt_in_operations};
+ghost use Rattle.type_tree.specs.TypeView.{type_views};
+ghost use Rattle.expr_tree.specs.View.{boxed_view, pattern_views};
 ghost use Rattle.vdm_tree.specs.StmtView.{boxed_stmt};
 ghost use Rattle.vdm_tree.specs.ClassView.{variable_view, variable_item_view, operation_view, body_view};
 
 use crate::definitions::unbuilt_if_given;
-use crate::statements::{unbuilt_in_block, unbuilt_in_stmt};
+use crate::statements::unbuilt_in_stmt;
 use built_nodes::{expr_first, unless};
 use vdm_kinds::{Name, Place};
-use vdm_tree::{Access, Body, Expr, Level, OpDef, Pattern, Stmt, TypeExpr, VarDef, VariableItem};
-
-fn is_same_place(a: Place, b: Place) -> bool
-    ensures { result ≡ is_same_place a b }
-{
-    a.line == b.line && a.column == b.column
-}
+use vdm_tree::{Body, Expr, OpDef, Pattern, Stmt, TypeExpr, VarDef, VariableItem};
 
 // ---- variables
-
-fn lacks_initial(initial: &Option<Box<Expr>>, place: Place) -> Option<Place>
-    ensures { result ≡ lacks_initial (option_map boxed_view initial.now) place }
-{
-    match initial {
-        Some(_) => None,
-        None => Some(place),
-    }
-}
 
 fn unbuilt_in_variable(variable: &VarDef) -> Option<Place>
     ensures { result ≡ unbuilt_in_variable (variable_view variable.now) }
 {
-    let begins = is_same_place(variable.place, variable.name_place);
-    unless(begins, variable.place)
-        .or(lacks_initial(&variable.initial, variable.place))
-        .or(unbuilt_if_given(&variable.initial))
+    unless(!variable.access.is_static, variable.place).or(unbuilt_if_given(&variable.initial))
 }
 
 fn unbuilt_in_item(item: &VariableItem) -> Option<Place>
@@ -62,22 +44,6 @@ pub(crate) fn unbuilt_in_items(items: &[VariableItem]) -> Option<Place>
 
 // ---- operations
 
-/// Whether the access is that of the one word `public`.
-fn is_public(access: Access) -> bool
-    ensures { result ≡ is_public access }
-{
-    !access.is_static && matches!(access.level, Level::Public)
-}
-
-fn lacks_body(body: &Body<Box<Stmt>>, place: Place) -> Option<Place>
-    ensures { result ≡ lacks_body (body_view boxed_stmt body.now) place }
-{
-    match body {
-        Body::Written(_) => None,
-        Body::NotYetSpecified | Body::SubclassResponsibility => Some(place),
-    }
-}
-
 fn unbuilt_in_parameters(parameters: &[TypeExpr]) -> Option<Place>
     ensures { result ≡ unbuilt_in_parameters (type_views parameters.now) }
 {
@@ -92,14 +58,12 @@ fn unbuilt_in_parameter_patterns(patterns: &[Pattern]) -> Option<Place>
     Some(pattern.place())
 }
 
-/// A body without a result returns nothing, and one with a result returns a value at its end.
-fn unbuilt_in_body(declared: &Option<TypeExpr>, body: &Body<Box<Stmt>>) -> Option<Place>
-    ensures { result ≡ unbuilt_in_body (option_map type_view declared.now) (body_view boxed_stmt body.now) }
+fn unbuilt_in_body(body: &Body<Box<Stmt>>) -> Option<Place>
+    ensures { result ≡ unbuilt_in_body (body_view boxed_stmt body.now) }
 {
     match body {
-        Body::Written(body) if declared.is_some() => unbuilt_in_block(body),
         Body::Written(body) => unbuilt_in_stmt(body),
-        _ => None,
+        Body::NotYetSpecified | Body::SubclassResponsibility => None,
     }
 }
 
@@ -119,19 +83,18 @@ fn is_constructor(class: Name, operation: &OpDef) -> bool
     operation.name == class
 }
 
-/// Whether it is public, and no constructor.
+/// Whether it is neither static nor a constructor.
 fn is_plain(class: Name, operation: &OpDef) -> bool
-    ensures { result ≡ (is_public (operation_view operation.now).access && not (is_constructor class (operation_view operation.now))) }
+    ensures { result ≡ (not (operation_view operation.now).access.is_static && not (is_constructor class (operation_view operation.now))) }
 {
-    is_public(operation.access) && !is_constructor(class, operation)
+    !operation.access.is_static && !is_constructor(class, operation)
 }
 
-/// Where the first form of an operation's head stands that is not built; where it begins, if its body is missing.
+/// Where the first form of an operation's head stands that is not built.
 fn unbuilt_in_head(class: Name, operation: &OpDef) -> Option<Place>
     ensures { result ≡ unbuilt_in_head class (operation_view operation.now) }
 {
     unless(is_plain(class, operation), operation.place)
-        .or(lacks_body(&operation.body, operation.place))
         .or(unbuilt_in_parameters(&operation.parameters))
         .or(unbuilt_in_parameter_patterns(&operation.patterns))
 }
@@ -140,7 +103,7 @@ fn unbuilt_in_head(class: Name, operation: &OpDef) -> Option<Place>
 fn unbuilt_behind_head(operation: &OpDef) -> Option<Place>
     ensures { result ≡ unbuilt_behind_head (operation_view operation.now) }
 {
-    unbuilt_in_body(&operation.result_type, &operation.body)
+    unbuilt_in_body(&operation.body)
         .or(unbuilt_in_condition(&operation.pre))
         .or(unbuilt_in_condition(&operation.post))
 }

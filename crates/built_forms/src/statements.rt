@@ -1,12 +1,13 @@
 // Statements: the first form that is not built.
 
 ghost use Rattle.std.specs.Prelude.{◌≡◌, map};
-ghost use Rattle.text_phases.specs.Built.{unbuilt_in_target, unbuilt_in_locals, unbuilt_in_stmt, unbuilt_in_stmts, unbuilt_in_return, unbuilt_to_return, unbuilt_in_block, step_place, or_behind};
-ghost use Rattle.vdm_tree.specs.StmtView.{stmt_view, stmt_views, stmt_trees, target_view, target_step_view, dcl_view};
+ghost use Rattle.text_phases.specs.Built.{unbuilt_in_target, unbuilt_in_locals, unbuilt_in_stmt, unbuilt_in_stmts, unbuilt_in_maybe_stmt, unbuilt_in_branch_stmts, step_place};
+ghost use Rattle.vdm_tree.specs.StmtView.{stmt_view, stmt_views, stmt_trees, stmt_branch_view, stmt_branch_trees, maybe_stmt, target_view, target_step_view, dcl_view};
 
+use crate::definitions::unbuilt_if_given;
 use built_exprs::{unbuilt_in_call, unbuilt_in_expr};
 use vdm_kinds::Place;
-use vdm_tree::{Dcl, Stmt, Target, TargetStep};
+use vdm_tree::{Dcl, Stmt, StmtBranch, Target, TargetStep};
 
 fn step_place(step: &TargetStep) -> Place
     ensures { result ≡ step_place (target_step_view step.now) }
@@ -37,7 +38,8 @@ fn unbuilt_in_locals(locals: &[Dcl]) -> Option<Place>
     Some(dcl.place)
 }
 
-/// Where the first form of a statement stands that is not built, where no `return` may stand. It recurses once a level.
+/// Where the first form of a statement stands that is not built. Each function recurses once a level.
+#[cycle(unbuilt)]
 pub(crate) fn unbuilt_in_stmt(statement: &Stmt) -> Option<Place>
     ensures { result ≡ unbuilt_in_stmt (stmt_view statement.now) }
 {
@@ -45,21 +47,26 @@ pub(crate) fn unbuilt_in_stmt(statement: &Stmt) -> Option<Place>
         Stmt::Assign(target, value, _) => unbuilt_in_target(target).or(unbuilt_in_expr(value)),
         Stmt::Call(application, _) => unbuilt_in_call(application),
         Stmt::Block(locals, statements, _) => {
-            if let Some(place) = unbuilt_in_locals(locals) {
-                return Some(place);
-            }
-            for statement in statements {
-                if let Some(place) = unbuilt_in_stmt(statement) {
-                    return Some(place);
-                }
-            }
-            None
+            unbuilt_in_locals(locals).or(unbuilt_in_stmts(statements))
         }
+        Stmt::Return(value, _) => unbuilt_if_given(value),
+        Stmt::Exit(value, _) => unbuilt_if_given(value),
+        Stmt::If(condition, body, elseifs, otherwise, _) => unbuilt_in_expr(condition).or(
+            unbuilt_in_stmt(body).or(unbuilt_in_branches(elseifs).or(unbuilt_in_maybe(otherwise))),
+        ),
+        Stmt::While(condition, body, _) => unbuilt_in_expr(condition).or(unbuilt_in_stmt(body)),
+        Stmt::ForNumbers(_, _, first, last, by, body, _) => unbuilt_in_expr(first).or(
+            unbuilt_in_expr(last).or(unbuilt_if_given(by).or(unbuilt_in_stmt(body))),
+        ),
+        Stmt::Always(last, body, _) => unbuilt_in_stmt(last).or(unbuilt_in_stmt(body)),
+        Stmt::Parallel(statements, _) => unbuilt_in_stmts(statements),
+        Stmt::Skip(_) | Stmt::Error(_) => None,
         _ => Some(statement.place()),
     }
 }
 
 /// The same, of statements one after the other.
+#[cycle(unbuilt)]
 fn unbuilt_in_stmts(statements: &[Stmt]) -> Option<Place>
     ensures { result ≡ unbuilt_in_stmts (stmt_trees (stmt_views statements.now)) }
 {
@@ -71,35 +78,27 @@ fn unbuilt_in_stmts(statements: &[Stmt]) -> Option<Place>
     None
 }
 
-/// Where the first form stands that is not built, where a value has to be returned.
-fn unbuilt_in_return(statement: &Stmt) -> Option<Place>
-    ensures { result ≡ unbuilt_in_return (stmt_view statement.now) }
+/// The same, of a statement that may be left out.
+#[cycle(unbuilt)]
+fn unbuilt_in_maybe(statement: &Option<Box<Stmt>>) -> Option<Place>
+    ensures { result ≡ unbuilt_in_maybe_stmt (maybe_stmt statement.now) }
 {
     match statement {
-        Stmt::Return(Some(value), _) => unbuilt_in_expr(value),
-        _ => Some(statement.place()),
+        Some(statement) => unbuilt_in_stmt(statement),
+        None => None,
     }
 }
 
-/// The same, of the statements of a block at `place` that has to return a value at its end.
-#[tactic(auto, using(crate::proofs::Last::to_return_split))]
-fn unbuilt_to_return(place: Place, statements: &[Stmt]) -> Option<Place>
-    ensures { result ≡ unbuilt_to_return place (stmt_trees (stmt_views statements.now)) }
+/// The same, of each `elseif`.
+#[cycle(unbuilt)]
+fn unbuilt_in_branches(branches: &[StmtBranch]) -> Option<Place>
+    ensures { result ≡ unbuilt_in_branch_stmts (stmt_branch_trees (map stmt_branch_view branches.now)) }
 {
-    match statements.split_last() {
-        Some((last, earlier)) => unbuilt_in_stmts(earlier).or(unbuilt_in_return(last)),
-        None => Some(place),
-    }
-}
-
-/// The same, of a body that has to return a value.
-pub(crate) fn unbuilt_in_block(body: &Stmt) -> Option<Place>
-    ensures { result ≡ unbuilt_in_block (stmt_view body.now) }
-{
-    match body {
-        Stmt::Block(locals, statements, place) => {
-            unbuilt_in_locals(locals).or(unbuilt_to_return(*place, statements))
+    for branch in branches {
+        let found = unbuilt_in_expr(&branch.condition).or(unbuilt_in_stmt(&branch.body));
+        if let Some(place) = found {
+            return Some(place);
         }
-        _ => Some(body.place()),
     }
+    None
 }

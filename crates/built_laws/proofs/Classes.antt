@@ -29,12 +29,13 @@ use Rattle.abstract_syntax.specs.Classes.{
 use Rattle.pattern_meaning.specs.Brackets.{given_in, given_in_list}
 use Rattle.text_phases.specs.Built.{unless, unbuilt_in_expr, unbuilt_in_pattern, unbuilt_in_invariant, unbuilt_in_types, unbuilt_in_values, unbuilt_in_each_pattern, unbuilt_if_written, unbuilt_if_given, unbuilt_in_function, unbuilt_in_functions, unbuilt_in_items, unbuilt_in_operations, unbuilt_in_class_block, unbuilt_in_class_blocks, unbuilt_in_superclasses, unbuilt_in_class, unbuilt_in_classes, stands_alone, unbuilt_in_spec, IsBuiltExpr}
 use Rattle.built_laws.specs.Meant.{Each, IsMeant}
-use Rattle.built_laws.specs.MeantClasses.{body_part, given_part, function_parts, IsMeantFunction, invariant_parts, IsMeantType, IsMeantValue, IsMeantItem, IsMeantOperation, IsMeantBlock, IsMeantClass, IsMeantSpec}
+use Rattle.built_laws.specs.Parts.{given_part}
+use Rattle.built_laws.specs.MeantClasses.{body_part, function_parts, IsMeantFunction, invariant_parts, IsMeantType, IsMeantValue, IsMeantItem, IsMeantOperation, IsMeantBlock, IsMeantClass, IsMeantSpec}
 use Rattle.built_laws.proofs.Exprs.{expr_meant}
 use Rattle.built_laws.proofs.Lists.{each-append, each-weaker}
 use Rattle.built_laws.proofs.Nothing.{first-none, behind-none, told-none}
 use Rattle.built_laws.proofs.PartsBuilt.{given_built}
-use Rattle.built_laws.proofs.Stmts.{operation_meant, variable_meant}
+use Rattle.built_laws.proofs.Stmts.{operation_meant, initial_meant}
 
 -- ---- functions
 
@@ -95,7 +96,7 @@ values_meant levels (v ∷ vs) h = (expr_meant levels v.value (first-none _ _ h)
 
 items_meant : (levels : ℕ) (items : List VariableItem) → unbuilt_in_items items ≡ None → Each (IsMeantItem levels) items
 items_meant levels [] h = tt
-items_meant levels (variable_item v ∷ items) h = (variable_meant levels v (first-none _ _ h), items_meant levels items (behind-none _ _ h))
+items_meant levels (variable_item v ∷ items) h = (initial_meant levels v (first-none _ _ h), items_meant levels items (behind-none _ _ h))
 items_meant levels (invariant_item condition place ∷ items) h = told-none _ h
 
 functions_meant : (levels : ℕ) (fs : List FunctionTree) → unbuilt_in_functions fs ≡ None → Each (IsMeantFunction levels) fs

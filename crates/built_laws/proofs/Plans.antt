@@ -47,7 +47,25 @@ use Rattle.abstract_syntax.specs.Expressions.{
   one_expr,
   expr_place,
 }
-use Rattle.abstract_syntax.specs.Statements.{TargetTree, variable, variable_of_class, StmtTree, assign, call, block, returns, stmt_place}
+use Rattle.abstract_syntax.specs.Statements.{
+  TargetTree,
+  variable,
+  variable_of_class,
+  StmtTree,
+  assign,
+  call,
+  block,
+  returns,
+  exits,
+  if_then,
+  while_do,
+  for_numbers,
+  always_after,
+  in_parallel,
+  skips,
+  errs,
+  stmt_place,
+}
 use Rattle.abstract_syntax.specs.Classes.{SpecTree, is_same_name}
 use Rattle.node_meaning.specs.Envs.{Locals, Here}
 use Rattle.node_meaning.specs.Expressions.{expr_plan}
@@ -114,6 +132,14 @@ nothing_done spec here locals (assign target value place) h = not_so h
 nothing_done spec here locals (call application place) h = not_so h
 nothing_done spec here locals (block dcls statements place) h = not_so h
 nothing_done spec here locals (returns value place) h = not_so h
+nothing_done spec here locals (exits value place) h = not_so h
+nothing_done spec here locals (if_then condition body elseifs otherwise place) h = not_so h
+nothing_done spec here locals (while_do condition body place) h = not_so h
+nothing_done spec here locals (for_numbers name name_place first last by body place) h = not_so h
+nothing_done spec here locals (always_after last body place) h = not_so h
+nothing_done spec here locals (in_parallel statements place) h = not_so h
+nothing_done spec here locals (skips place) h = not_so h
+nothing_done spec here locals (errs place) h = not_so h
 nothing_done spec here locals statement h = refl
 
 pub not_written : (spec : SpecTree) (here : Here) (target : TargetTree) (place : Place) (v : ValueTree) (locals : Locals)

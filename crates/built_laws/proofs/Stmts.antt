@@ -1,16 +1,56 @@
 -- Statements, bodies and initial values that are built have a meaning.
-use Rattle.std.proofs.Common.{◌≡◌, ℕ, zero, suc, not, ◌&&◌, [], ◌∷◌, Option, Some, None, refl}
+use Rattle.std.proofs.Common.{◌≡◌, ℕ, zero, suc, not, [], ◌∷◌, Option, Some, None, refl, ap, sym, ◌∙◌}
 use Rattle.vdm_kinds.specs.declared.name.Name.{Name}
-use Rattle.vdm_kinds.specs.declared.place.Place.{Place}
-use Rattle.abstract_syntax.specs.Types.{TypeTree}
 use Rattle.abstract_syntax.specs.Expressions.{ExprTree, apply}
-use Rattle.abstract_syntax.specs.Statements.{variable, variable_of_class, StmtTree, StmtTrees, assign, call, block, returns, no_stmts, one_stmt}
+use Rattle.abstract_syntax.specs.Statements.{
+  variable,
+  variable_of_class,
+  StmtTree,
+  StmtTrees,
+  MaybeStmt,
+  StmtBranches,
+  assign,
+  call,
+  block,
+  returns,
+  exits,
+  if_then,
+  while_do,
+  for_numbers,
+  always_after,
+  in_parallel,
+  skips,
+  errs,
+  no_stmts,
+  one_stmt,
+  no_stmt,
+  given_stmt,
+  no_stmt_branches,
+  one_stmt_branch,
+}
 use Rattle.abstract_syntax.specs.Classes.{VariableTree, Body, written, not_yet_specified, subclass_responsibility, OperationTree}
-use Rattle.text_phases.specs.Built.{unbuilt_in_stmt, unbuilt_in_stmts, unbuilt_in_return, unbuilt_to_return, unbuilt_in_body, lacks_body, unless, is_public, is_constructor, is_same_place, unbuilt_in_head, unbuilt_behind_head, unbuilt_in_operation, lacks_initial, unbuilt_if_given, unbuilt_in_variable}
+use Rattle.text_phases.specs.Built.{or_behind, unbuilt_in_expr, unbuilt_if_given, unbuilt_in_stmt, unbuilt_in_stmts, unbuilt_in_maybe_stmt, unbuilt_in_branch_stmts, unbuilt_in_body, unbuilt_in_condition, unless, unbuilt_in_head, unbuilt_behind_head, unbuilt_in_operation, unbuilt_in_variable}
 use Rattle.built_laws.specs.Meant.{Each, IsMeant}
-use Rattle.built_laws.specs.MeantStmts.{statements_in, IsMeantStmt, IsMeantBody}
+use Rattle.built_laws.specs.MeantStmts.{statements_in, maybe_statement, branch_statements, branch_conditions, IsMeantStmt, IsMeantBody}
+use Rattle.built_laws.specs.Parts.{given_part}
 use Rattle.built_laws.proofs.Exprs.{expr_meant}
+use Rattle.built_laws.proofs.Lists.{each-append}
 use Rattle.built_laws.proofs.Nothing.{first-none, behind-none, told-none}
+
+-- ---- the expressions of statements
+
+pub given_part_meant : (levels : ℕ) (part : Option ExprTree) → unbuilt_if_given part ≡ None → Each (IsMeant levels) (given_part part)
+given_part_meant levels None h = tt
+given_part_meant levels (Some part) h = (expr_meant levels part h, tt)
+
+conditions_meant : (levels : ℕ) (branches : StmtBranches) → unbuilt_in_branch_stmts branches ≡ None
+    → Each (IsMeant levels) (branch_conditions branches)
+conditions_meant levels no_stmt_branches h = tt
+conditions_meant levels (one_stmt_branch condition statement branches) h =
+    let behind = behind-none (unbuilt_in_expr condition) (or_behind (unbuilt_in_stmt statement) (unbuilt_in_branch_stmts branches)) h in (
+      expr_meant levels condition (first-none (unbuilt_in_expr condition) (or_behind (unbuilt_in_stmt statement) (unbuilt_in_branch_stmts branches)) h),
+      conditions_meant levels branches (behind-none (unbuilt_in_stmt statement) (unbuilt_in_branch_stmts branches) behind),
+    )
 
 -- ---- statements
 
@@ -24,6 +64,55 @@ mutual
   stmt_meant (suc levels) (call tree place) h = told-none _ h
   stmt_meant (suc levels) (block [] statements place) h = (refl, refl, tt, stmts_meant levels statements h)
   stmt_meant (suc levels) (block (dcl ∷ dcls) statements place) h = told-none _ h
+  stmt_meant (suc levels) (returns value place) h = (refl, refl, given_part_meant levels value h, tt)
+  stmt_meant (suc levels) (exits value place) h = (refl, refl, given_part_meant levels value h, tt)
+  stmt_meant (suc levels) (if_then condition body elseifs otherwise place) h =
+      let branches = unbuilt_in_branch_stmts elseifs in
+      let behind = behind-none (unbuilt_in_expr condition) (or_behind (unbuilt_in_stmt body) (or_behind branches (unbuilt_in_maybe_stmt otherwise))) h in
+      let last = behind-none (unbuilt_in_stmt body) (or_behind branches (unbuilt_in_maybe_stmt otherwise)) behind in
+      let built = first-none branches (unbuilt_in_maybe_stmt otherwise) last in (
+        refl,
+        refl,
+        (expr_meant levels condition (first-none (unbuilt_in_expr condition) _ h), conditions_meant levels elseifs built),
+        (
+          stmt_meant levels body (first-none (unbuilt_in_stmt body) _ behind),
+          each-append (IsMeantStmt levels) (branch_statements elseifs) (maybe_statement otherwise)
+              (branches_meant levels elseifs built)
+              (maybe_meant levels otherwise (behind-none branches (unbuilt_in_maybe_stmt otherwise) last)),
+        ),
+      )
+  stmt_meant (suc levels) (while_do condition body place) h = (
+    refl,
+    refl,
+    (expr_meant levels condition (first-none (unbuilt_in_expr condition) (unbuilt_in_stmt body) h), tt),
+    (stmt_meant levels body (behind-none (unbuilt_in_expr condition) (unbuilt_in_stmt body) h), tt),
+  )
+  stmt_meant (suc levels) (for_numbers name name_place first last by body place) h =
+      let behind_first = behind-none (unbuilt_in_expr first) (or_behind (unbuilt_in_expr last) (or_behind (unbuilt_if_given by) (unbuilt_in_stmt body))) h in
+      let behind_last = behind-none (unbuilt_in_expr last) (or_behind (unbuilt_if_given by) (unbuilt_in_stmt body)) behind_first in (
+        refl,
+        refl,
+        (
+          expr_meant levels first (first-none (unbuilt_in_expr first) _ h),
+          (
+            expr_meant levels last (first-none (unbuilt_in_expr last) _ behind_first),
+            given_part_meant levels by (first-none (unbuilt_if_given by) (unbuilt_in_stmt body) behind_last),
+          ),
+        ),
+        (stmt_meant levels body (behind-none (unbuilt_if_given by) (unbuilt_in_stmt body) behind_last), tt),
+      )
+  stmt_meant (suc levels) (always_after last body place) h = (
+    refl,
+    refl,
+    tt,
+    (
+      stmt_meant levels last (first-none (unbuilt_in_stmt last) (unbuilt_in_stmt body) h),
+      (stmt_meant levels body (behind-none (unbuilt_in_stmt last) (unbuilt_in_stmt body) h), tt),
+    ),
+  )
+  stmt_meant (suc levels) (in_parallel statements place) h = (refl, refl, tt, stmts_meant levels statements h)
+  stmt_meant (suc levels) (skips place) h = (refl, refl, tt, tt)
+  stmt_meant (suc levels) (errs place) h = (refl, refl, tt, tt)
   stmt_meant (suc levels) statement h = told-none _ h
 
   stmts_meant : (levels : ℕ) (statements : StmtTrees) → unbuilt_in_stmts statements ≡ None → Each (IsMeantStmt levels) (statements_in statements)
@@ -31,52 +120,38 @@ mutual
   stmts_meant levels (one_stmt statement statements) h =
       (stmt_meant levels statement (first-none _ _ h), stmts_meant levels statements (behind-none _ _ h))
 
+  maybe_meant : (levels : ℕ) (statement : MaybeStmt) → unbuilt_in_maybe_stmt statement ≡ None → Each (IsMeantStmt levels) (maybe_statement statement)
+  maybe_meant levels no_stmt h = tt
+  maybe_meant levels (given_stmt statement) h = (stmt_meant levels statement h, tt)
+
+  branches_meant : (levels : ℕ) (branches : StmtBranches) → unbuilt_in_branch_stmts branches ≡ None
+      → Each (IsMeantStmt levels) (branch_statements branches)
+  branches_meant levels no_stmt_branches h = tt
+  branches_meant levels (one_stmt_branch condition statement branches) h =
+      let behind = behind-none (unbuilt_in_expr condition) (or_behind (unbuilt_in_stmt statement) (unbuilt_in_branch_stmts branches)) h in (
+        stmt_meant levels statement (first-none (unbuilt_in_stmt statement) (unbuilt_in_branch_stmts branches) behind),
+        branches_meant levels branches (behind-none (unbuilt_in_stmt statement) (unbuilt_in_branch_stmts branches) behind),
+      )
+
 -- ---- bodies
 
-return_meant : (levels : ℕ) (statement : StmtTree) → unbuilt_in_return statement ≡ None → IsMeantStmt levels statement
-return_meant zero statement h = tt
-return_meant (suc levels) (returns (Some value) place) h = (refl, refl, (expr_meant levels value h, tt), tt)
-return_meant (suc levels) (returns None place) h = told-none _ h
-return_meant (suc levels) statement h = told-none _ h
-
-to_return_meant : (levels : ℕ) (place : Place) (statements : StmtTrees) → unbuilt_to_return place statements ≡ None
-    → Each (IsMeantStmt levels) (statements_in statements)
-to_return_meant levels place no_stmts h = told-none _ h
-to_return_meant levels place (one_stmt statement no_stmts) h = (return_meant levels statement h, tt)
-to_return_meant levels place (one_stmt statement (one_stmt next statements)) h =
-    (stmt_meant levels statement (first-none _ _ h), to_return_meant levels place (one_stmt next statements) (behind-none _ _ h))
-
-body_meant : (levels : ℕ) (result : Option TypeTree) (body : Body StmtTree) (place : Place) → lacks_body body place ≡ None
-    → unbuilt_in_body result body ≡ None → IsMeantBody levels body
-body_meant levels None (written body) place there h = stmt_meant levels body h
-body_meant zero (Some declared) (written body) place there h = tt
-body_meant (suc levels) (Some declared) (written (block [] statements at)) place there h = (refl, refl, tt, to_return_meant levels at statements h)
-body_meant (suc levels) (Some declared) (written (block (dcl ∷ dcls) statements at)) place there h = told-none _ h
-body_meant (suc levels) (Some declared) (written body) place there h = told-none _ h
-body_meant levels result not_yet_specified place there h = told-none _ there
-body_meant levels result subclass_responsibility place there h = told-none _ there
+body_meant : (levels : ℕ) (body : Body StmtTree) → unbuilt_in_body body ≡ None → IsMeantBody levels body
+body_meant levels (written body) h = stmt_meant levels body h
+body_meant levels not_yet_specified h = tt
+body_meant levels subclass_responsibility h = tt
 
 pub operation_meant : (levels : ℕ) (class : Name) (o : OperationTree) → unbuilt_in_operation class o ≡ None → IsMeantBody levels o.body
 operation_meant levels class o h =
-    let head = first-none (unbuilt_in_head class o) (unbuilt_behind_head o) h in
     let behind = behind-none (unbuilt_in_head class o) (unbuilt_behind_head o) h in
-    let public = unless (is_public o.access && not (is_constructor class o)) o.place in
-    let lacks = lacks_body o.body o.place in
-    let body = unbuilt_in_body o.result_type o.body in
-    body_meant levels o.result_type o.body o.place (first-none lacks _ (behind-none public _ head)) (first-none body _ behind)
+    body_meant levels o.body (first-none (unbuilt_in_body o.body) (or_behind (unbuilt_in_condition o.pre) (unbuilt_in_condition o.post)) behind)
 
 -- ---- initial values
 
-value_meant : (levels : ℕ) (initial : Option ExprTree) (place : Place) → lacks_initial initial place ≡ None → unbuilt_if_given initial ≡ None
-    → (value : ExprTree) × (initial ≡ Some value) × IsMeant levels value
-value_meant levels None place there h = told-none _ there
-value_meant levels (Some value) place there h = (value, refl, expr_meant levels value h)
+initial_built : (v : VariableTree) → unbuilt_in_variable v ≡ None → unbuilt_if_given v.initial ≡ None
+initial_built v h = behind-none (unless (not v.access.is_static) v.place) (unbuilt_if_given v.initial) h
 
-pub variable_meant : (levels : ℕ) (v : VariableTree) → unbuilt_in_variable v ≡ None
-    → (value : ExprTree) × (v.initial ≡ Some value) × IsMeant levels value
-variable_meant levels v h =
-    let begins = unless (is_same_place v.place v.name_place) v.place in
-    let lacks = lacks_initial v.initial v.place in
-    let behind = behind-none begins _ h in
-    value_meant levels v.initial v.place (first-none lacks _ behind)
-    (behind-none lacks _ behind)
+pub initial_meant : (levels : ℕ) (v : VariableTree) → unbuilt_in_variable v ≡ None → Each (IsMeant levels) (given_part v.initial)
+initial_meant levels v h = given_part_meant levels v.initial (initial_built v h)
+
+pub variable_meant : (levels : ℕ) (v : VariableTree) (value : ExprTree) → unbuilt_in_variable v ≡ None → v.initial ≡ Some value → IsMeant levels value
+variable_meant levels v value h given = expr_meant levels value (ap unbuilt_if_given (sym given) ∙ initial_built v h)

@@ -1,5 +1,5 @@
 -- Classes with a meaning: each node of what is evaluated of their definitions has a plan of its own.
-use Rattle.std.specs.Prelude.{◌≡◌, ℕ, List, [], ◌∷◌, ◌++◌, Option, Some, None}
+use Rattle.std.specs.Prelude.{ℕ, List, [], ◌∷◌, ◌++◌, Option, Some, None}
 use Rattle.abstract_syntax.specs.Expressions.{ExprTree}
 use Rattle.abstract_syntax.specs.Classes.{
   InvariantTree,
@@ -28,6 +28,7 @@ use Rattle.abstract_syntax.specs.Classes.{
 use Rattle.pattern_meaning.specs.Brackets.{given_in, given_in_list}
 use Rattle.built_laws.specs.Meant.{Each, IsMeant}
 use Rattle.built_laws.specs.MeantStmts.{IsMeantBody}
+use Rattle.built_laws.specs.Parts.{given_part}
 
 -- ---- functions
 
@@ -35,10 +36,6 @@ abbrev pub body_part : Body ExprTree → List ExprTree
 body_part (written body) = body ∷ []
 body_part not_yet_specified = []
 body_part subclass_responsibility = []
-
-abbrev pub given_part : Option ExprTree → List ExprTree
-given_part None = []
-given_part (Some part) = part ∷ []
 
 -- what is evaluated of a function, in text order
 abbrev pub function_parts : FunctionTree → List ExprTree
@@ -62,9 +59,9 @@ IsMeantType levels t = Each (IsMeant levels) (invariant_parts t.invariant)
 abbrev pub IsMeantValue : ℕ → ValueDefTree → Type 0
 IsMeantValue levels v = IsMeant levels v.value
 
--- a variable has an initial value; no invariant of an instance has a meaning yet
+-- a variable may have an initial value; no invariant of an instance has a meaning yet
 abbrev pub IsMeantItem : ℕ → VariableItem → Type 0
-IsMeantItem levels (variable_item v) = (value : ExprTree) × (v.initial ≡ Some value) × IsMeant levels value
+IsMeantItem levels (variable_item v) = Each (IsMeant levels) (given_part v.initial)
 IsMeantItem levels (invariant_item condition place) = ⊥
 
 abbrev pub IsMeantOperation : ℕ → OperationTree → Type 0

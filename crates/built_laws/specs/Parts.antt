@@ -1,5 +1,5 @@
 -- The expressions that stand right in another one, in text order: those that are evaluated for it or among what it binds.
-use Rattle.std.specs.Prelude.{List, [], ◌∷◌, ◌++◌}
+use Rattle.std.specs.Prelude.{List, [], ◌∷◌, ◌++◌, Option, Some, None}
 use Rattle.abstract_syntax.specs.Expressions.{
   ExprTree,
   ExprTrees,
@@ -77,6 +77,10 @@ exprs_in (one_expr tree trees) = tree ∷ exprs_in trees
 abbrev pub maybe_in : MaybeExpr → List ExprTree
 maybe_in left_out = []
 maybe_in (given_expr tree) = tree ∷ []
+
+abbrev pub given_part : Option ExprTree → List ExprTree
+given_part None = []
+given_part (Some part) = part ∷ []
 
 abbrev pub maplets_in : MapletTrees → List ExprTree
 maplets_in no_maplets = []

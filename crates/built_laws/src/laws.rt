@@ -28,15 +28,15 @@ pub fn built_expressions_have_meaning()
     ensures { (levels : ℕ) (tree : ExprTree) → unbuilt_in_expr tree ≡ None → IsMeant levels tree }
 {}
 
-/// So has each statement of a built operation, and each node of its expressions. The body is there.
+/// So has each statement of a built operation, and each node of its expressions.
 pub fn built_bodies_have_meaning()
     ensures { (levels : ℕ) (class : Name) (o : OperationTree) → unbuilt_in_operation class o ≡ None → IsMeantBody levels o.body }
 {}
 
-/// A built variable has an initial value, with a meaning.
+/// So has the initial value of a built variable, where it has one.
 pub fn built_variables_have_meaning()
-    ensures { (levels : ℕ) (v : VariableTree) → unbuilt_in_variable v ≡ None
-        → (value : ExprTree) × (v.initial ≡ Some value) × IsMeant levels value }
+    ensures { (levels : ℕ) (v : VariableTree) (value : ExprTree) → unbuilt_in_variable v ≡ None → v.initial ≡ Some value
+        → IsMeant levels value }
 {}
 
 /// So has what is evaluated of a built function: its patterns, its body, and its conditions.

@@ -24,7 +24,8 @@ use Rattle.eval_data.specs.declared.frame.Frame.{Frame}
 use Rattle.eval_data.specs.declared.here.Here.{Here}
 use Rattle.eval_data.specs.Steps.{frame_then}
 use Rattle.step_data.specs.declared.making.Making.{Making}
-use Rattle.step_data.specs.Actions.{of_thread, slots_left}
+use Rattle.step_data.specs.declared.action.Action.{Action}
+use Rattle.step_data.specs.Actions.{action_code, of_thread, slots_left}
 use Rattle.step_data.specs.Parts.{expression_in}
 
 -- a variable with an initialiser, and those behind it
@@ -120,3 +121,9 @@ module _ (spec : SpecTree) (making lent : Making) (index : ℕ) (same : lent ≡
       ap (λ (m : Making). object_asked m.class m.place m.slots.items locals) same
       ∙ all_tested spec making.place making.variables.now making.slots.items (object_asked making.class making.place making.slots.items) locals index past
       ∙ left
+
+-- what a step that is known says at this specification and these locals
+pub at_these : (spec : SpecTree) (locals : Locals) (r : Result Action OutOfMemory) (code : SpecTree → Locals → Code) (whole : Code)
+    → IfOk r (λ a. (s : SpecTree) (l : Locals) → action_code s l a ≡ code s l) → code spec locals ≡ whole → IfOk r (λ a. action_code spec locals a ≡ whole)
+at_these spec locals (Ok a) code whole h e = h spec locals ∙ e
+at_these spec locals (Err x) code whole h e = tt

@@ -166,20 +166,24 @@ fn left_with_value<'t>(
     let place = call.place;
     let nest = Nest::none();
     let tested = fitted(alloc, table, locals, nest, class, declared, place, value)?;
-    Ok(tested_result(call, tested))
+    tested_result(alloc, call, tested)
 }
 
 /// Where the result fits, the call asks to finish. A fault stands at the call.
-fn tested_result<'t>(call: Call<'t>, tested: Tested<'t>) -> Action<'t>
-    ensures falls { height result ≤ 2 }
-    ensures same { (spec : SpecTree) (locals : Locals) → action_code spec locals result ≡ bind (tested_code (of_thread spec) call.entry.place locals tested.entry) (with_value call.entry.place (finished_plan call.entry.me call.entry.op)) }
+fn tested_result<'t>(
+    alloc: Global,
+    call: Call<'t>,
+    tested: Tested<'t>,
+) -> Result<Action<'t>, OutOfMemory>
+    ensures falls { IfOk result (λ a. height a ≤ 2) }
+    ensures same { IfOk result (λ a. (spec : SpecTree) (locals : Locals) → action_code spec locals a ≡ bind (tested_code (of_thread spec) call.entry.place locals tested.entry) (with_value call.entry.place (finished_plan call.entry.me call.entry.op))) }
 {
     match tested {
-        Tested::Gives(value) => finished_with(call.me, call.op, value),
-        Tested::Fails(fault) => Action::Fail(fault, call.place),
+        Tested::Gives(value) => Ok(finished_with(call.me, call.op, value)),
+        Tested::Fails(fault) => Ok(Action::Fail(fault, call.place)),
         Tested::Asks(here, tree, inner) => {
             let outer = Waiting::Leave(call.me, call.op, call.place);
-            Action::Test(here, tree, inner, outer)
+            Action::fit(alloc, here, tree, inner, outer)
         }
     }
 }

@@ -53,7 +53,7 @@ pub fn test_slots<'t>(
             Tried::Fails(fault) => return Ok(Action::Fail(fault, making.place)),
             Tried::Asks(here, tree, inner) => {
                 let waiting = Waiting::Slots(making, index + 1);
-                return Ok(Action::Test(here, tree, inner, waiting));
+                return Action::fit(alloc, here, tree, inner, waiting);
             }
         }
     }

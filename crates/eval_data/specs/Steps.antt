@@ -216,7 +216,8 @@ abbrev pub code_of : Setting → Locals → Step → Code
 code_of setting locals (Finish flow) = finish (flow_of flow locals)
 code_of setting locals (Fail kind place) = fault kind place
 code_of setting locals (Part here tree frame) = part (expr_in (at (here_of here) locals) (view_of tree.now)) (frame_then setting frame)
-code_of setting locals (Test here tree inner outer) =
-    bind (part (expr_in (at (here_of here) locals) (view_of tree.now)) (frame_then setting inner)) (frame_then setting outer)
+code_of setting locals (Test test) =
+    bind (part (expr_in (at (here_of test.value.here) locals) (view_of test.value.tree.now)) (frame_then setting test.value.inner))
+    (frame_then setting test.value.outer)
 code_of setting locals (Become here tree) = become (expr_in (at (here_of here) locals) (view_of tree.now))
 code_of setting locals (Need need place after) = asked setting (need_of need) place locals (after_need after place)

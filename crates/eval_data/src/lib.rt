@@ -17,6 +17,7 @@ mod parts;
 mod search;
 mod step;
 mod strict;
+mod test_part;
 mod waiting;
 mod wanted;
 
@@ -36,4 +37,5 @@ pub use parts::Parts;
 pub use search::{Search, Sets, Source};
 pub use step::Step;
 pub use strict::Strict;
+pub use test_part::TestPart;
 pub use wanted::Wanted;

@@ -10,6 +10,7 @@ use crate::flow::Flow;
 use crate::frame::{After, Frame};
 use crate::here::Here;
 use crate::need::Need;
+use crate::test_part::TestPart;
 use expr_tree::Expr;
 use vdm_kinds::{Place, RunFault};
 use vdm_values::{Slot, Value};
@@ -25,8 +26,8 @@ pub enum Step<'t> {
     Part(Here<'t>, &'t Expr, Frame<'t>),
     /// A part in the node's stead.
     Become(Here<'t>, &'t Expr),
-    /// A part of the test of a value, what is done with what comes of it, and what is done with what comes of the test.
-    Test(Here<'t>, &'t Expr, Frame<'t>, Frame<'t>),
+    /// A part of the test of a value, with what is done behind it.
+    Test(Box<TestPart<'t>>),
     /// Something is needed for the node at the place; and what is done with what comes of it.
     Need(Need, Place, After),
 }

@@ -6,20 +6,22 @@ use Rattle.abstract_syntax.specs.Classes.{SpecTree}
 use Rattle.abstract_syntax.specs.Expressions.{ExprTree}
 use Rattle.expr_tree.specs.View.{view_of}
 use Rattle.expr_tree.specs.declared.expr.Expr.{Expr}
-use Rattle.plans.specs.Plans.{fail, part, become}
+use Rattle.plans.specs.Plans.{fail, part, become, bind}
 use Rattle.vdm_kinds.specs.declared.halt.OutOfMemory.{OutOfMemory}
 use Rattle.vdm_kinds.specs.declared.place.Place.{Place}
 use Rattle.node_meaning.specs.Envs.{Locals, Here, at}
 use Rattle.node_meaning.specs.TaskPlans.{plan_of}
-use Rattle.node_meaning.specs.Tasks.{expr_in, Code, spent}
+use Rattle.node_meaning.specs.Tasks.{expr_in, Code, placed, spent}
 use Rattle.eval_data.specs.declared.flow.Flow.{Flow}
 use Rattle.eval_data.specs.declared.frame.Frame.{Frame}
 use Rattle.eval_data.specs.declared.frame.Level.{Level}
 use Rattle.eval_data.specs.declared.nest.Nest.{Nest}
 use Rattle.eval_data.specs.declared.here.Here.{Here as HereOf}
 use Rattle.eval_data.specs.declared.step.Step.{Step}
+use Rattle.eval_data.specs.declared.frame.Frame.TheVariants.{Cut}
 use Rattle.eval_data.specs.declared.step.Step.TheVariants.{Finish, Fail, Part, Test, Become, Need}
-use Rattle.eval_data.specs.Parts.{flow_of, here_of}
+use Rattle.eval_data.specs.declared.test_part.TestPart.{TestPart}
+use Rattle.eval_data.specs.Parts.{flow_of, here_of, nest_of}
 use Rattle.eval_data.specs.Steps.{frame_then, level_then}
 use Rattle.expr_eval.specs.declared.doing.Doing.{Doing}
 use Rattle.expr_eval.specs.Evaluations.{of_evaluator, comes_to, alone, placed_code, stands}
@@ -62,12 +64,18 @@ module _ (spec : SpecTree) (place : Place) (frames : List Level) where
   spent_becomes here locals tree code units answers e f = rw (e, f) (become-spent spec place frames (expr_in (at here locals) tree) answers)
 
   -- what comes of a test goes to its outer frame
-  pub tested : (now : List Level) (nest : Nest) (locals : Locals) (here : HereOf) (tree : Bor Expr) (inner outer : Frame) (answers : List Answer) (units : ℕ)
+  pub tested : (now : List Level) (nest : Nest) (locals : Locals) (test one two : TestPart) (inner outer : Frame) (answers : List Answer) (units : ℕ)
+      → outer ≡ test.outer → one ≡ record test { outer = Cut 0 } → inner ≡ one.inner → two ≡ record one { inner = Cut 0 }
       → now ≡ frames ++ record { nest = nest; frame = outer } ∷ []
-      → stands spec place now (placed_code (of_evaluator spec) nest locals (Part here tree inner)) answers units
-      ≡ stands spec place frames (placed_code (of_evaluator spec) nest locals (Test here tree inner outer)) answers units
-  tested now nest locals here tree inner outer answers units n =
-      rw n (bind-waits spec place frames (record { nest = nest; frame = outer }) (part (expr_in (at (here_of here) locals) (view_of tree.now)) (frame_then (of_evaluator spec) inner)) answers units)
+      → stands spec place now (placed_code (of_evaluator spec) nest locals (Part two.here two.tree inner)) answers units
+      ≡ stands spec place frames
+      (placed (nest_of nest)
+      (bind (part (expr_in (at (here_of test.here) locals) (view_of test.tree.now)) (frame_then (of_evaluator spec) test.inner))
+      (frame_then (of_evaluator spec) test.outer))) answers units
+  tested now nest locals test one two inner outer answers units o a i b n =
+      rw (n, b, i, a, o)
+      (bind-waits spec place frames (record { nest = nest; frame = test.outer })
+      (part (expr_in (at (here_of test.here) locals) (view_of test.tree.now)) (frame_then (of_evaluator spec) test.inner)) answers units)
 
   -- a result goes to what waits for it
   pub popped : (left : List Level) (before after : Locals) (level : Level) (flow : Flow) (nest : Nest) (step : Step) (next : Doing) (units : ℕ) (answers : List Answer)
@@ -87,7 +95,7 @@ pub weight-le : (s : Step) → weight s ≤ 6
 weight-le (Finish flow) = omega arith
 weight-le (Fail kind place) = omega arith
 weight-le (Part here tree frame) = omega arith
-weight-le (Test here tree inner outer) = omega arith
+weight-le (Test test) = omega arith
 weight-le (Become here tree) = omega arith
 weight-le (Need need place after) = omega arith
 

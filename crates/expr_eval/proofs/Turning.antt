@@ -102,7 +102,7 @@ done-low : (spec : SpecTree) (locals : Locals) (s : Step) → IsDone (code_of (o
 done-low spec locals (Finish flow) h = omega arith
 done-low spec locals (Fail kind place) h = omega arith
 done-low spec locals (Part here tree frame) h = absurd h
-done-low spec locals (Test here tree inner outer) h = absurd h
+done-low spec locals (Test test) h = absurd h
 done-low spec locals (Become here tree) h = absurd h
 done-low spec locals (NeedStep need place after) h = absurd h
 

@@ -14,7 +14,7 @@ abbrev pub weight : Step → ℕ
 weight (Finish flow) = 4
 weight (Fail kind place) = 1
 weight (Part here tree frame) = 2
-weight (Test here tree inner outer) = 6
+weight (Test test) = 6
 weight (Become here tree) = 2
 weight (Need need place after) = 6
 

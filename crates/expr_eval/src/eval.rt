@@ -13,7 +13,7 @@ ghost use Rattle.expr_eval.specs.Weights.{load, weight, reached_weight, rank};
 use crate::doing::Doing;
 use crate::env::Env;
 use crate::turn::Turn;
-use eval_data::{After, Flow, Frame, Here, Level, Need, Nest, Step};
+use eval_data::{After, Flow, Here, Level, Need, Nest, Step, TestPart};
 use expr_tree::Expr;
 use name_steps::after_need;
 use plans::take_unit;
@@ -204,7 +204,7 @@ impl<'t> Eval<'t> {
                     tree,
                     Level { nest, frame },
                 )?,
-                Step::Test(here, tree, inner, outer) => self.test(nest, here, tree, inner, outer)?,
+                Step::Test(test) => self.test(nest, test)?,
                 Step::Become(here, tree) => self.begin(alloc, fuel, here, tree)?,
                 Step::Need(need, place, after) => return Ok(Reached::Needs(
                     need, nest, place, after,
@@ -240,24 +240,20 @@ impl<'t> Eval<'t> {
     }
 
     /// Lets the outer frame wait for what comes of the test of a value; the part of that test is next.
-    fn test(
-        &mut self,
-        nest: Nest,
-        here: Here<'t>,
-        tree: &'t Expr,
-        inner: Frame<'t>,
-        outer: Frame<'t>,
-    ) -> Result<Doing<'t>, OutOfMemory>
-        ensures same { IfOk result (λ d. (answers : List Answer) (units : ℕ) → stands_with self.new d.nest d.step answers units ≡ stands_with self.old nest (Step.Test here.entry tree.entry inner.entry outer.entry) answers units) }
+    fn test(&mut self, nest: Nest, test: Box<TestPart<'t>>) -> Result<Doing<'t>, OutOfMemory>
+        ensures same { IfOk result (λ d. (answers : List Answer) (units : ℕ) → stands_with self.new d.nest d.step answers units ≡ stands_with self.old nest (Step.Test test.entry) answers units) }
         ensures falls { IfOk result (λ d. (units : ℕ) → load self.new.frames.items units (weight d.step) < load self.old.frames.items units 6) }
         ensures table { self.new.table ≡ self.old.table }
         ensures place { self.new.place ≡ self.old.place }
         ensures next { self.new.next ≡ self.old.next }
     {
-        self.frames.push(Level { nest, frame: outer })?;
+        let mut test = test;
+        let frame = test.take_outer();
+        self.frames.push(Level { nest, frame })?;
+        let inner = test.take_inner();
         Ok(Doing {
             nest,
-            step: Step::Part(here, tree, inner),
+            step: Step::Part(test.here, test.tree, inner),
         })
     }
 

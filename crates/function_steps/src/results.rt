@@ -81,8 +81,7 @@ fn behind_test<'t>(
         Tested::Gives(value) => post_of(alloc, locals, applying, value),
         Tested::Fails(fault) => Ok(Step::Fail(fault, place)),
         Tested::Asks(here, tree, inner) => {
-            let outer = Frame::With(Use::ResultFits(applying), place);
-            Ok(Step::Test(here, tree, inner, outer))
+            Step::result_test(alloc, here, tree, inner, applying, place)
         }
     }
 }

@@ -59,8 +59,7 @@ fn behind_test<'t>(
         }
         Tested::Fails(fault) => Ok(Step::Fail(fault, place)),
         Tested::Asks(inside, tree, inner) => {
-            let outer = Frame::With(Use::DefinitionFits(here, definition), place);
-            Ok(Step::Test(inside, tree, inner, outer))
+            Step::definition_test(alloc, inside, tree, inner, here, definition, place)
         }
     }
 }

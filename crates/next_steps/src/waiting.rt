@@ -13,12 +13,13 @@ use call_steps::call::ended as call_ended;
 use call_steps::object::initialised;
 use eval_data::{After, Flow};
 use eval_steps::then_of as expression_then;
+use flow_steps::{at_last, branch_decided, called, exit_with, unless_ended, unless_replaced};
+use loop_steps::{again, by_number, first_number, last_number, round_done};
 use main_steps::ended as main_ended;
 use name_steps::came_of_need;
 use spec_table::ClassTable;
 use std::alloc::Global;
 use step_data::{Action, Waiting};
-use stmt_steps::{called, unless_ended};
 use vdm_kinds::{Name, OutOfMemory, Place};
 use vdm_values::Slot;
 
@@ -50,6 +51,21 @@ pub fn then_of<'t>(
         Waiting::Write(me, var, place) => Ok(written_flow(me, var, place, flow)),
         Waiting::Leave(me, op, place) => Ok(left_flow(me, op, place, flow)),
         Waiting::Slots(making, tested) => tested_flow(alloc, table, locals, making, tested, flow),
+        Waiting::Exit(place) => Ok(exit_with(place, flow)),
+        Waiting::Branches(here, statement, more, otherwise, place) => {
+            Ok(branch_decided(here, statement, more, otherwise, place, flow))
+        }
+        Waiting::Round(here, round) => round_done(alloc, locals, here, round, flow),
+        Waiting::Again(here, condition, body, place) => {
+            Ok(again(here, condition, body, place, flow))
+        }
+        Waiting::First(here, rest) => Ok(first_number(here, rest, flow)),
+        Waiting::Last(here, rest, first) => last_number(alloc, locals, here, rest, first, flow),
+        Waiting::By(here, rest, first, last) => {
+            by_number(alloc, locals, here, rest, first, last, flow)
+        }
+        Waiting::AtLast(here, last) => Ok(at_last(here, last, flow)),
+        Waiting::Replaced(before) => Ok(unless_replaced(before, flow)),
         Waiting::End => Ok(main_ended(flow)),
     }
 }

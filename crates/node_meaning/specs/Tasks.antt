@@ -1,5 +1,5 @@
 -- What is evaluated, what comes of it, and what is asked on the way.
-use Rattle.std.specs.Prelude.{ℕ, List, Result, Ok, Err, take}
+use Rattle.std.specs.Prelude.{ℕ, ℤ, List, Result, Ok, Err, take}
 use Rattle.vdm_kinds.specs.declared.member.OpRef.{OpRef}
 use Rattle.vdm_kinds.specs.declared.member.VarRef.{VarRef}
 use Rattle.vdm_kinds.specs.declared.name.Name.{Name}
@@ -17,6 +17,22 @@ use Rattle.plans.specs.Plans.{Plan, finish, fail, ask, part, become}
 use Rattle.node_meaning.specs.Envs.{Locals, Nest, outermost, Here, Env, at}
 use Rattle.node_meaning.specs.Faults.{Fault, fault_at}
 
+-- Where `for i = a to b by c` stands: the name, how many locals stand before it, the number of this round, the difference to that of the
+-- next one, the number behind which there is none, and the body.
+pub record Counting : Type 0 where
+  pub name : Name
+  pub count : ℕ
+  pub at : ℤ
+  pub step : ℤ
+  pub last : ℤ
+  pub body : StmtTree
+
+-- a round of a loop
+pub data Round : Type 0 where
+  -- of a `while` at this place: its condition, and the body where that is true
+  while_true : ExprTree → StmtTree → Place → Round
+  counts : Counting → Round
+
 -- what is evaluated: a node, which costs one unit
 pub data Task : Type 0 where
   -- an expression, for its value
@@ -24,6 +40,8 @@ pub data Task : Type 0 where
   -- a call whose value is not wanted: that of a call statement, or the whole expression of a run
   call_in : Env → ExprTree → Task
   stmt_in : Env → StmtTree → Task
+  -- the node with which a round of a loop begins, and what is done behind it
+  round_in : Env → Round → Task
 
 -- what comes of it, with the locals after it
 pub data Flow : Type 0 where
@@ -62,11 +80,17 @@ abbrev pub env_of : Task → Env
 env_of (expr_in env tree) = env
 env_of (call_in env tree) = env
 env_of (stmt_in env tree) = env
+env_of (round_in env round) = env
+
+abbrev pub round_place : Round → Place
+round_place (while_true condition body place) = expr_place condition
+round_place (counts counting) = stmt_place counting.body
 
 abbrev pub task_place : Task → Place
 task_place (expr_in env tree) = expr_place tree
 task_place (call_in env tree) = expr_place tree
 task_place (stmt_in env tree) = stmt_place tree
+task_place (round_in env round) = round_place round
 
 -- ---- where faults stand
 

@@ -3,6 +3,7 @@ pub mod NotedChoices
 pub mod NotedFunctions
 pub mod NotedNodes
 pub mod NotedRecords
+pub mod NotedStatements
 pub mod NotedTasks
 pub mod Noting
 pub mod OnlyAsked

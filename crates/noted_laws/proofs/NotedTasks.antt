@@ -1,77 +1,23 @@
--- Statements, and with them each task of a thread, ask questions that entries answer; so a thread has no need as such.
-use Rattle.std.proofs.Common.{◌∷◌, ◌+◌, [], List, Option, Some, None, ℕ}
-use Rattle.vdm_kinds.specs.declared.member.VarRef.{VarRef}
+-- Each task of a thread asks questions that entries answer; so a thread has no need as such.
+use Rattle.std.proofs.Common.{◌∷◌, ◌+◌, [], List, ℕ}
 use Rattle.vdm_kinds.specs.declared.name.Name.{Name}
-use Rattle.vdm_kinds.specs.declared.place.Place.{Place}
-use Rattle.vdm_values.specs.declared.slot.Slot.TheVariants.{Unset, Held as Holds}
 use Rattle.abstract_syntax.specs.Expressions.{ExprTree, apply}
-use Rattle.abstract_syntax.specs.Statements.{TargetTree, variable, variable_of_class, StmtTree, StmtTrees, assign, call, block, returns, no_stmts, one_stmt}
-use Rattle.abstract_syntax.specs.Classes.{VariableTree, SpecTree}
+use Rattle.abstract_syntax.specs.Classes.{SpecTree}
 use Rattle.run_journal.specs.declared.answer.Answer.{Answer}
-use Rattle.run_journal.specs.declared.answer.Answer.TheVariants.{Refused}
 use Rattle.plans.specs.Plans.{finish, fail, ask, part, become, run, meaning}
 use Rattle.vdm_legal.specs.ClassObjects.{classes_of}
 use Rattle.node_meaning.specs.Calls.{no_value}
-use Rattle.node_meaning.specs.Envs.{Locals, Nest, no_nest, Here}
-use Rattle.node_meaning.specs.Names.{variable_in, variable_definition}
-use Rattle.node_meaning.specs.Statements.{written, write_asked, write_typed, write_found, assigned, called, unless_ended, sequence, return_value, returned_of, stmt_plan}
-use Rattle.node_meaning.specs.TaskPlans.{bare_call, node_plan, plan_of}
-use Rattle.node_meaning.specs.Tasks.{Task, expr_in, call_in, stmt_in, Flow, gave, next, returned, exited, Code, env_of, placed, spent}
+use Rattle.node_meaning.specs.Envs.{Locals, Nest, Here}
+use Rattle.node_meaning.specs.Expressions.{expr_plan}
+use Rattle.node_meaning.specs.Matching.{on_truth}
+use Rattle.node_meaning.specs.Statements.{while_decided, counted, stmt_plan}
+use Rattle.node_meaning.specs.TaskPlans.{bare_call, node_plan, plan_of, round_plan}
+use Rattle.node_meaning.specs.Tasks.{Task, expr_in, call_in, stmt_in, round_in, Round, while_true, counts, Flow, gave, next, returned, exited, Code, env_of, placed, spent, with_value}
 use Rattle.vdm_meaning.specs.Main.{ended, whole_expression, make_class_objects, main_plan, of_thread}
-use Rattle.noted_laws.proofs.OnlyAsked.{NeedsOnly, needs-only}
-use Rattle.noted_laws.proofs.Noting.{IsNoted, Notes, Onward, OnwardWith, notes-evaluated, notes-typed}
+use Rattle.noted_laws.proofs.OnlyAsked.{NeedsOnly, bind-asks, needs-only}
+use Rattle.noted_laws.proofs.Noting.{IsNoted, Notes, notes-on_truth, notes-with_value}
 use Rattle.noted_laws.proofs.NotedNodes.{notes-application, notes-expr}
-
--- ---- statements
-
-module _ (spec : SpecTree) (here : Here) where
-  notes-written : (place : Place) (locals : Locals) (answer : Answer) → Notes (written place locals answer)
-  notes-written place locals Refused = tt
-  notes-written place locals _ = tt
-
-  notes-write_typed : (me : ℕ) (var : VarRef) (found : Option VariableTree) (place : Place) → OnwardWith (write_typed spec me var found place)
-  notes-write_typed me var None place v locals = tt
-  notes-write_typed me var (Some definition) place v locals =
-      notes-typed spec no_nest (Some var.class) definition.declared place (write_asked me var place) (λ fitting_v after. (tt, notes-written place after)) v locals
-
-  notes-write_found : (me : Option ℕ) (var : Option VarRef) (place : Place) → OnwardWith (write_found spec me var place)
-  notes-write_found (Some me) (Some var) place v locals = notes-write_typed me var (variable_definition spec var) place v locals
-  notes-write_found _ _ place v locals = tt
-
-  notes-assigned : (target : TargetTree) (place : Place) → OnwardWith (assigned spec here target place)
-  notes-assigned (variable name [] name_place) place v locals = notes-write_found here.me (variable_in spec here.scope name) place v locals
-  notes-assigned (variable name (step ∷ steps) name_place) place v locals = tt
-  notes-assigned (variable_of_class class name name_place steps class_place) place v locals = tt
-
-  notes-called : (flow : Flow) → Notes (called flow)
-  notes-called (gave (Holds v) locals) = tt
-  notes-called (gave Unset locals) = tt
-  notes-called (next locals) = tt
-  notes-called (returned slot locals) = tt
-  notes-called (exited v from locals) = tt
-
-  notes-unless_ended : (others : Locals → Code) → Onward others → (flow : Flow) → Notes (unless_ended others flow)
-  notes-unless_ended others h (gave slot locals) = tt
-  notes-unless_ended others h (next locals) = h locals
-  notes-unless_ended others h (returned slot locals) = tt
-  notes-unless_ended others h (exited v from locals) = tt
-
-  notes-sequence : (statements : StmtTrees) → Onward (sequence here statements)
-  notes-sequence no_stmts locals = tt
-  notes-sequence (one_stmt statement statements) locals = notes-unless_ended (sequence here statements) (notes-sequence statements)
-
-  notes-returned_of : (tree : Option ExprTree) (place : Place) → Onward (returned_of here tree place)
-  notes-returned_of None place locals = tt
-  notes-returned_of (Some tree) place locals = notes-evaluated here locals tree place return_value (λ v after. tt)
-
-  notes-statement : (locals : Locals) (statement : StmtTree) → Notes (stmt_plan spec here locals statement)
-  notes-statement locals (assign target tree place) = notes-evaluated here locals tree place (assigned spec here target place) (notes-assigned target place)
-  notes-statement locals (call tree place) = notes-called
-  notes-statement locals (block dcls statements place) = notes-sequence statements locals
-  notes-statement locals (returns tree place) = notes-returned_of tree place locals
-  notes-statement locals statement = tt
-
--- ---- tasks, and main
+use Rattle.noted_laws.proofs.NotedStatements.{notes-counted, notes-statement, notes-while_decided}
 
 -- wherever the faults stand
 notes-placed : (nest : Nest) (code : Code) → Notes code → Notes (placed nest code)
@@ -86,10 +32,21 @@ module _ (spec : SpecTree) where
   notes-bare_call here locals (apply head arguments place) = notes-application spec here place no_value head arguments locals
   notes-bare_call here locals tree = tt
 
+  notes-round : (here : Here) (locals : Locals) (round : Round) → Notes (round_plan (of_thread spec) here locals round)
+  notes-round here locals (while_true condition body place) =
+      bind-asks IsNoted (expr_plan (of_thread spec) here locals condition) (with_value place (on_truth place (while_decided here condition body place)))
+      (notes-expr spec here locals condition)
+      (notes-with_value place (on_truth place (while_decided here condition body place))
+      (notes-on_truth place (while_decided here condition body place) (notes-while_decided spec here condition body place)))
+  notes-round here locals (counts counting) =
+      bind-asks IsNoted (stmt_plan spec here locals counting.body) (counted here counting)
+      (notes-statement spec here locals counting.body) (notes-counted spec here counting)
+
   notes-node : (task : Task) → Notes (node_plan (of_thread spec) task)
   notes-node (expr_in env tree) = notes-expr spec env.here env.locals tree
   notes-node (call_in env tree) = notes-bare_call env.here env.locals tree
   notes-node (stmt_in env statement) = notes-statement spec env.here env.locals statement
+  notes-node (round_in env round) = notes-round env.here env.locals round
 
   notes-task : (task : Task) → Notes (plan_of (of_thread spec) task)
   notes-task task = notes-placed (env_of task).here.nest (node_plan (of_thread spec) task) (notes-node task)
@@ -100,9 +57,9 @@ module _ (spec : SpecTree) where
   notes-ended (returned slot locals) = (tt, λ a. tt)
   notes-ended (exited v place locals) = tt
 
-  notes-class_objects : (tree : ExprTree) (number : ℕ) (classes : List Name) → Notes (make_class_objects number classes (part (whole_expression tree) ended))
-  notes-class_objects tree number [] = notes-ended
-  notes-class_objects tree number (class ∷ classes) = (tt, λ a. notes-class_objects tree (number + 1) classes)
+  notes-class_objects : (tree : ExprTree) (object : ℕ) (classes : List Name) → Notes (make_class_objects object classes (part (whole_expression tree) ended))
+  notes-class_objects tree object [] = notes-ended
+  notes-class_objects tree object (class ∷ classes) = (tt, λ a. notes-class_objects tree (object + 1) classes)
 
   -- so a need as such is never what main needs, whatever it is answered
   pub main-notes : (tree : ExprTree) (answers : List Answer) (units : ℕ) → NeedsOnly IsNoted (run (meaning (plan_of (of_thread spec)) spent) (main_plan spec tree) answers units)

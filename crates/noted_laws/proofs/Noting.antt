@@ -37,7 +37,7 @@ Onward further = (locals : Locals) → Notes (further locals)
 abbrev pub OnwardWith : {X : Type 0} → (X → Locals → Code) → Type 0
 OnwardWith {X} further = (x : X) (locals : Locals) → Notes (further x locals)
 
-notes-if : (b : Bool) (p q : Code) → Notes p → Notes q → Notes (if b then p else q)
+pub notes-if : (b : Bool) (p q : Code) → Notes p → Notes q → Notes (if b then p else q)
 notes-if true p q h k = h
 notes-if false p q h k = k
 
@@ -78,7 +78,7 @@ notes-strict here what place trees = notes-collected here place trees [] (make w
 
 -- ---- conditions and patterns
 
-notes-on_truth : (place : Place) (further : Bool → Locals → Code) → OnwardWith further → OnwardWith (on_truth place further)
+pub notes-on_truth : (place : Place) (further : Bool → Locals → Code) → OnwardWith further → OnwardWith (on_truth place further)
 notes-on_truth place further h (boolean b) locals = h b locals
 notes-on_truth place further h v locals = tt
 

@@ -7,11 +7,12 @@ ghost use Rattle.eval_data.specs.Steps.{code_of};
 ghost use Rattle.step_data.specs.Actions.{action_code, of_thread, height};
 
 use crate::asking::Asking;
+use crate::fit_part::FitPart;
+use crate::round::Round;
 use crate::task::Task;
 use crate::waiting::Waiting;
-use eval_data::{After, Flow, Frame, Here, Need, Step};
+use eval_data::{After, Flow, Here, Need, Step, TestPart};
 use vdm_kinds::{Place, RunFault};
-use vdm_tree::Expr;
 use vdm_values::Value;
 
 /// What a thread does next: a plan of the meaning, as data. The locals are the thread's.
@@ -26,10 +27,14 @@ pub enum Action<'t> {
     Ask(Asking<'t>),
     /// A part, and what is done with what comes of it.
     Part(Task<'t>, Waiting<'t>),
-    /// A part in the node's stead.
-    Become(Here<'t>, &'t Expr),
-    /// A part of the test of a value, what is done with what comes of it, and what is done with what comes of the test.
-    Test(Here<'t>, &'t Expr, Frame<'t>, Waiting<'t>),
+    /// A node in the stead of another.
+    Become(Task<'t>),
+    /// A round of a loop.
+    Round(Here<'t>, Round<'t>),
+    /// A part of the test of a value in an expression, with what is done behind it.
+    Test(Box<TestPart<'t>>),
+    /// A part of the test of a value elsewhere, with what is done behind it.
+    Fit(Box<FitPart<'t>>),
     /// Something is needed for the node at the place; and what is done with what comes of it.
     Need(Need, Place, After),
 }
@@ -46,10 +51,8 @@ impl<'t> Action<'t> {
             Step::Part(here, tree, frame) => {
                 Action::Part(Task::Expr(here, tree), Waiting::Expr(frame))
             }
-            Step::Become(here, tree) => Action::Become(here, tree),
-            Step::Test(here, tree, inner, outer) => {
-                Action::Test(here, tree, inner, Waiting::Expr(outer))
-            }
+            Step::Become(here, tree) => Action::Become(Task::Expr(here, tree)),
+            Step::Test(test) => Action::Test(test),
             Step::Need(need, place, after) => Action::Need(need, place, after),
         }
     }

@@ -13,9 +13,12 @@ use Rattle.vdm_kinds.specs.declared.halt.OutOfMemory.{OutOfMemory}
 use Rattle.vdm_kinds.specs.declared.run_fault.RunFault.{RunFault}
 use Rattle.vdm_kinds.specs.declared.run_fault.RunFault.TheVariants.{UncaughtExit}
 use Rattle.vdm_values.specs.declared.slot.Slot.TheVariants.{Unset, Held}
-use Rattle.node_meaning.specs.Envs.{Locals, Nest as MeantNest, no_nest}
+use Rattle.node_meaning.specs.Envs.{Locals, Here as MeantHere, Nest as MeantNest, no_nest, at}
+use Rattle.node_meaning.specs.Expressions.{expr_plan}
+use Rattle.node_meaning.specs.Matching.{on_truth}
+use Rattle.node_meaning.specs.Statements.{stmt_plan, while_decided, counted}
 use Rattle.node_meaning.specs.Faults.{Fault, fault_at}
-use Rattle.node_meaning.specs.Tasks.{Task, Flow, Query, noted, Code, placed, spent}
+use Rattle.node_meaning.specs.Tasks.{Task, round_in, Round as MeantRound, while_true, counts, Flow, Query, noted, Code, placed, spent, with_value}
 use Rattle.node_meaning.specs.TaskPlans.{plan_of}
 use Rattle.vdm_meaning.specs.Main.{asks, over, standing_of, uncaught}
 use Rattle.step_data.specs.declared.waiting.Waiting.{Waiting}
@@ -25,11 +28,19 @@ use Rattle.step_data.specs.declared.asking.Asking.{Asking}
 use Rattle.stmt_exec.specs.declared.machine.Machine.{Machine}
 use Rattle.spec_table.specs.Tables.{table_spec}
 use Rattle.step_data.specs.declared.level.Level.{Level}
-use Rattle.step_data.specs.Actions.{of_thread, waiting_then, level_then, question_of, answered_of, action_code}
+use Rattle.step_data.specs.declared.round.Round.{Round}
+use Rattle.step_data.specs.declared.fit_part.FitPart.{FitPart}
+use Rattle.step_data.specs.declared.waiting.Waiting.TheVariants.{Expr, Round as BehindFirst, End}
+use Rattle.step_data.specs.Parts.{first_task, round_of}
+use Rattle.step_data.specs.Actions.{of_thread, waiting_then, level_then, question_of, answered_of, action_code, nested, round_done}
+use Rattle.eval_data.specs.declared.frame.Frame.{Frame}
+use Rattle.eval_data.specs.declared.frame.Frame.TheVariants.{Cut}
+use Rattle.eval_data.specs.declared.here.Here.{Here}
 use Rattle.eval_data.specs.declared.nest.Nest.{Nest}
-use Rattle.eval_data.specs.Parts.{nest_of}
+use Rattle.eval_data.specs.declared.test_part.TestPart.{TestPart}
+use Rattle.eval_data.specs.Parts.{here_of, nest_of}
 use Rattle.step_data.specs.declared.action.Action.{Action}
-use Rattle.stmt_exec.specs.Standing.{comes_to, unwind, stands, code_inside, rest_at, rest}
+use Rattle.stmt_exec.specs.Standing.{comes_to, unwind, stands, stands_with, code_inside, rest_at, rest}
 
 -- ---- where faults stand
 
@@ -180,6 +191,54 @@ tests spec levels one now nest after fuel left round inner outer task (Ok a) e o
     ∙ bind-waits spec levels (suc left) other_waits (part task (level_then spec one_waits)) answers
     ∙ ap (λ c. stands spec levels (suc left) c answers) (sym (placed-bind (nest_of round) (part task (waiting_then spec inner)) (waiting_then spec outer))))
 tests spec levels one now nest after fuel left round inner outer task (Err x) e o n h = tt
+
+-- a part of a test, taken out of its box
+pub test_so : (spec : SpecTree) (locals : Locals) (test one two : TestPart) (inner outer : Frame) → inner ≡ test.inner → one ≡ record test { inner = Cut 0 }
+    → outer ≡ one.outer → two ≡ record one { outer = Cut 0 }
+    → nested spec locals two.here two.tree inner (Expr outer) ≡ nested spec locals test.here test.tree test.inner (Expr test.outer)
+test_so spec locals test one two inner outer i a o b = rw (b, o, a, i) refl
+
+pub fit_so : (spec : SpecTree) (locals : Locals) (fit one two : FitPart) (inner : Frame) (outer : Waiting) → inner ≡ fit.inner → one ≡ record fit { inner = Cut 0 }
+    → outer ≡ one.outer → two ≡ record one { outer = End }
+    → nested spec locals two.here two.tree inner outer ≡ nested spec locals fit.here fit.tree fit.inner fit.outer
+fit_so spec locals fit one two inner outer i a o b = rw (b, o, a, i) refl
+
+-- ... where the code is known that a part of it stands for
+pub for_code : (now : Machine) (spec : SpecTree) (levels : List Level) (fuel : ℕ) (nest : MeantNest) (r : Result Action OutOfMemory) (one two : Code)
+    → IfOk r (λ a. (answers : List Answer) → stands_with now a answers ≡ stands spec levels fuel (placed nest one) answers) → one ≡ two
+    → IfOk r (λ a. (answers : List Answer) → stands_with now a answers ≡ stands spec levels fuel (placed nest two) answers)
+for_code now spec levels fuel nest (Ok a) one two h e = λ answers. h answers ∙ ap (λ (c : Code). stands spec levels fuel (placed nest c) answers) e
+for_code now spec levels fuel nest (Err x) one two h e = tt
+
+-- a round of a loop: the node with which it begins, and what waits behind that
+round-is : (spec : SpecTree) (here : MeantHere) (locals : Locals) (round : MeantRound)
+    → bind (plan_of (of_thread spec) (first_task here locals round)) (λ flow. placed here.nest (round_done here round flow))
+    ≡ plan_of (of_thread spec) (round_in (at here locals) round)
+round-is spec here locals (while_true condition body place) =
+    sym (placed-bind here.nest (expr_plan (of_thread spec) here locals condition) (with_value place (on_truth place (while_decided here condition body place))))
+round-is spec here locals (counts counting) = sym (placed-bind here.nest (stmt_plan spec here locals counting.body) (counted here counting))
+
+round_spent : (here : MeantHere) (locals : Locals) (round : MeantRound) → spent (first_task here locals round) ≡ spent (round_in (at here locals) round)
+round_spent here locals (while_true condition body place) = refl
+round_spent here locals (counts counting) = refl
+
+pub rounded : (spec : SpecTree) (levels now : List Level) (nest : Nest) (after : Locals) (fuel left : ℕ) (here : Here) (locals : Locals) (round : Round) (task : Task) (r : Result Action OutOfMemory)
+    → fuel ≡ suc left → now ≡ levels ++ record { nest = here.nest; waiting = BehindFirst here round } ∷ []
+    → task ≡ first_task (here_of here) locals (round_of round)
+    → IfOk r (λ a. code_inside spec nest after a ≡ plan_of (of_thread spec) task)
+    → Comes spec now nest after left (become (round_in (at (here_of here) locals) (round_of round))) levels fuel r
+rounded spec levels now nest after fuel left here locals round task (Ok a) e n t h = λ answers.
+    let level : Level = record { nest = here.nest; waiting = BehindFirst here round } in
+    rw (e, n, h, t) (bind-waits spec levels left level (plan_of (of_thread spec) (first_task (here_of here) locals (round_of round))) answers
+    ∙ ap (λ c. stands spec levels left c answers) (round-is spec (here_of here) locals (round_of round))
+    ∙ become-enters spec levels left (round_in (at (here_of here) locals) (round_of round)) answers)
+rounded spec levels now nest after fuel left here locals round task (Err x) e n t h = tt
+
+pub round_fails : (spec : SpecTree) (levels : List Level) (fuel : ℕ) (here : Here) (locals : Locals) (round : Round) (task : Task) (code : Code) (answers : List Answer)
+    → fuel ≡ 0 → task ≡ first_task (here_of here) locals (round_of round) → code ≡ fail (spent task)
+    → stands spec levels fuel code answers ≡ stands spec levels fuel (become (round_in (at (here_of here) locals) (round_of round))) answers
+round_fails spec levels fuel here locals round task code answers e t is =
+    rw (e, is, t, round_spent (here_of here) locals (round_of round)) (become-spent spec levels (round_in (at (here_of here) locals) (round_of round)) answers)
 
 -- one that finds no unit
 pub spent_fails : (spec : SpecTree) (levels : List Level) (fuel : ℕ) (task : Task) (next : Flow → Code) (code : Code) (answers : List Answer)

@@ -17,10 +17,10 @@ use Rattle.eval_data.specs.declared.flow.Flow.{Flow}
 use Rattle.eval_data.specs.Parts.{flow_of, nest_of}
 use Rattle.stmt_exec.specs.declared.machine.Machine.{Machine}
 use Rattle.step_data.specs.declared.action.Action.{Action}
-use Rattle.step_data.specs.declared.action.Action.TheVariants.{Finish as Done, Fail, Uncaught, Ask, Part, Become, Test, Need}
+use Rattle.step_data.specs.declared.action.Action.TheVariants.{Finish as Done, Fail, Uncaught, Ask, Part, Become, Round as OfRound, Test, Fit, Need}
 use Rattle.step_data.specs.declared.level.Level.{Level}
 use Rattle.step_data.specs.declared.waiting.Waiting.{Waiting}
-use Rattle.step_data.specs.declared.waiting.Waiting.TheVariants.{Expr, After, Called, Rest, Assign, Return, Body, Initial, Write, Leave, Slots, End}
+use Rattle.step_data.specs.declared.waiting.Waiting.TheVariants.{Expr, After, Called, Rest, Assign, Return, Body, Initial, Write, Leave, Slots, Exit, Branches, Round as BehindFirst, Again, First, Last, By, AtLast, Replaced, End}
 use Rattle.step_data.specs.Actions.{level_then, action_code, height, busy, waiting_weight, main_expression}
 use Rattle.eval_data.specs.declared.nest.Nest.{Nest}
 use Rattle.stmt_exec.specs.Standing.{stands, code_inside, stands_with, load, waiting_load}
@@ -62,6 +62,15 @@ weight-le (Initial making) = omega arith
 weight-le (Write me var place) = omega arith
 weight-le (Leave me op place) = omega arith
 weight-le (Slots making tested) = omega arith
+weight-le (Exit place) = omega arith
+weight-le (Branches here statement more otherwise place) = omega arith
+weight-le (BehindFirst here round) = omega arith
+weight-le (Again here condition body place) = omega arith
+weight-le (First here l) = omega arith
+weight-le (Last here l first) = omega arith
+weight-le (By here l first last) = omega arith
+weight-le (AtLast here statement) = omega arith
+weight-le (Replaced flow) = omega arith
 weight-le End = omega arith
 
 busy-le : (action : Action) → busy action ≤ 4
@@ -70,8 +79,10 @@ busy-le (Fail kind place) = omega arith
 busy-le (Uncaught v place) = omega arith
 busy-le (Ask asking) = omega arith
 busy-le (Part task waiting) = omega arith
-busy-le (Become here tree) = omega arith
-busy-le (Test here tree inner outer) = omega arith
+busy-le (Become task) = omega arith
+busy-le (OfRound here round) = omega arith
+busy-le (Test test) = omega arith
+busy-le (Fit fit) = omega arith
 busy-le (Need need place after) = omega arith
 
 pub popped-low : (levels left : List Level) (fuel : ℕ) (level : Level) (flow : Flow) (action next : Action) (bound : ℕ)

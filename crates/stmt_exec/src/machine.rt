@@ -2,15 +2,17 @@
 
 ghost use Rattle.std.specs.Prelude.{◌≡◌, ◌≢◌, ◌<◌, ◌≤◌, ◌↔◌, List, [], ◌∷◌, IfOk, OnOk, OnErr, IsErr, IsTrue};
 ghost use Rattle.run_journal.specs.declared.answer.Answer.{Answer as AnswerView};
+ghost use Rattle.node_meaning.specs.Tasks.{placed};
+ghost use Rattle.eval_data.specs.Parts.{nest_of};
 ghost use Rattle.vdm_meaning.specs.Main.{asks, over as is_over, main_code};
 ghost use Rattle.expr_tree.specs.View.{view_of};
 ghost use Rattle.spec_table.specs.Tables.{table_spec};
-ghost use Rattle.step_data.specs.Actions.{busy, height};
-ghost use Rattle.stmt_exec.specs.Standing.{rest, rest_at, rest_weight, rank, load, stands_with, IsSpent};
+ghost use Rattle.step_data.specs.Actions.{busy, height, nested};
+ghost use Rattle.stmt_exec.specs.Standing.{rest, rest_at, rest_weight, rank, load, stands, stands_with, IsSpent};
 
 use crate::acting::{behind, planned, unentered};
 use call_steps::need::needed;
-use eval_data::{After, Flow, Frame, Here, Need, Nest};
+use eval_data::{After, Flow, Frame, Here, Need, Nest, TestPart};
 use main_steps::{make_class_objects, question_of};
 use next_steps::answered_of;
 use plans::take_unit;
@@ -18,7 +20,7 @@ use run_journal::{Answer, Question};
 use spec_table::ClassTable;
 use std::alloc::Global;
 use std::mem;
-use step_data::{Action, Asking, Level, Task, Waiting};
+use step_data::{Action, Asking, FitPart, Level, Round, Task, Waiting};
 use vdm_kinds::{Name, OutOfMemory, Place, RunFault};
 use vdm_tree::Expr;
 use vdm_values::{Slot, Value};
@@ -184,10 +186,10 @@ impl<'t> Machine<'t> {
                     None => return Ok(over(flow)),
                 },
                 Action::Part(task, waiting) => self.enter(alloc, task, waiting)?,
-                Action::Become(here, tree) => self.begin(alloc, here, tree)?,
-                Action::Test(here, tree, inner, outer) => {
-                    self.test(alloc, here, tree, inner, outer)?
-                }
+                Action::Become(task) => self.begin(alloc, task)?,
+                Action::Round(here, round) => self.round(alloc, here, round)?,
+                Action::Test(test) => self.test(alloc, test)?,
+                Action::Fit(fit) => self.fit(alloc, fit)?,
                 Action::Need(need, place, after) => self.need(alloc, need, place, after)?,
                 Action::Fail(fault, place) => {
                     return Ok(Rest::Fails(fault, self.nest.place(place)));
@@ -230,20 +232,14 @@ impl<'t> Machine<'t> {
         }
     }
 
-    /// Enters an expression in the stead of a node.
-    fn begin(
-        &mut self,
-        alloc: Global,
-        here: Here<'t>,
-        tree: &'t Expr,
-    ) -> Result<Action<'t>, OutOfMemory>
-        ensures same { IfOk result (λ a. (answers : List AnswerView) → stands_with self.new a answers ≡ stands_with self.old (Action.Become here.entry tree.entry) answers) }
+    /// Enters a node in the stead of another.
+    fn begin(&mut self, alloc: Global, task: Task<'t>) -> Result<Action<'t>, OutOfMemory>
+        ensures same { IfOk result (λ a. (answers : List AnswerView) → stands_with self.new a answers ≡ stands_with self.old (Action.Become task.entry) answers) }
         ensures low { IfOk result (λ a. load self.new.levels.items self.new.fuel (height a) ≤ load self.old.levels.items self.old.fuel 1) }
         ensures falls { IfOk result (λ a. load self.new.levels.items self.new.fuel (busy a) < load self.old.levels.items self.old.fuel 1) }
         ensures table { self.new.table ≡ self.old.table }
         ensures rest { self.new.rest ≡ self.old.rest }
     {
-        let task = Task::Expr(here, tree);
         match take_unit(self.fuel) {
             Some(left) => {
                 self.fuel = left;
@@ -253,8 +249,63 @@ impl<'t> Machine<'t> {
         }
     }
 
+    /// Begins a round of a loop: what is done behind its first node waits.
+    fn round(
+        &mut self,
+        alloc: Global,
+        here: Here<'t>,
+        round: Round<'t>,
+    ) -> Result<Action<'t>, OutOfMemory>
+        ensures same { IfOk result (λ a. (answers : List AnswerView) → stands_with self.new a answers ≡ stands_with self.old (Action.Round here.entry round.entry) answers) }
+        ensures low { IfOk result (λ a. load self.new.levels.items self.new.fuel (height a) ≤ load self.old.levels.items self.old.fuel 1) }
+        ensures falls { IfOk result (λ a. load self.new.levels.items self.new.fuel (busy a) < load self.old.levels.items self.old.fuel 1) }
+        ensures table { self.new.table ≡ self.old.table }
+        ensures rest { self.new.rest ≡ self.old.rest }
+    {
+        let task = round.task(here);
+        match take_unit(self.fuel) {
+            Some(left) => {
+                self.fuel = left;
+                self.levels.push(Level {
+                    nest: here.nest,
+                    waiting: Waiting::Round(here, round),
+                })?;
+                planned(alloc, self.table, &mut self.locals, &mut self.nest, task)
+            }
+            None => Ok(unentered(&mut self.nest, task)),
+        }
+    }
+
+    /// Enters a part of the test of a value in an expression.
+    fn test(&mut self, alloc: Global, test: Box<TestPart<'t>>) -> Result<Action<'t>, OutOfMemory>
+        ensures same { IfOk result (λ a. (answers : List AnswerView) → stands_with self.new a answers ≡ stands_with self.old (Action.Test test.entry) answers) }
+        ensures low { IfOk result (λ a. load self.new.levels.items self.new.fuel (height a) ≤ load self.old.levels.items self.old.fuel 1) }
+        ensures falls { IfOk result (λ a. load self.new.levels.items self.new.fuel (busy a) < load self.old.levels.items self.old.fuel 1) }
+        ensures table { self.new.table ≡ self.old.table }
+        ensures rest { self.new.rest ≡ self.old.rest }
+    {
+        let mut test = test;
+        let inner = test.take_inner();
+        let outer = test.take_outer();
+        self.nested(alloc, test.here, test.tree, inner, Waiting::Expr(outer))
+    }
+
+    /// Enters a part of the test of a value elsewhere.
+    fn fit(&mut self, alloc: Global, fit: Box<FitPart<'t>>) -> Result<Action<'t>, OutOfMemory>
+        ensures same { IfOk result (λ a. (answers : List AnswerView) → stands_with self.new a answers ≡ stands_with self.old (Action.Fit fit.entry) answers) }
+        ensures low { IfOk result (λ a. load self.new.levels.items self.new.fuel (height a) ≤ load self.old.levels.items self.old.fuel 1) }
+        ensures falls { IfOk result (λ a. load self.new.levels.items self.new.fuel (busy a) < load self.old.levels.items self.old.fuel 1) }
+        ensures table { self.new.table ≡ self.old.table }
+        ensures rest { self.new.rest ≡ self.old.rest }
+    {
+        let mut fit = fit;
+        let inner = fit.take_inner();
+        let outer = fit.take_outer();
+        self.nested(alloc, fit.here, fit.tree, inner, outer)
+    }
+
     /// Enters a part of the test of a value, behind which two levels wait.
-    fn test(
+    fn nested(
         &mut self,
         alloc: Global,
         here: Here<'t>,
@@ -262,7 +313,7 @@ impl<'t> Machine<'t> {
         inner: Frame<'t>,
         outer: Waiting<'t>,
     ) -> Result<Action<'t>, OutOfMemory>
-        ensures same { IfOk result (λ a. (answers : List AnswerView) → stands_with self.new a answers ≡ stands_with self.old (Action.Test here.entry tree.entry inner.entry outer.entry) answers) }
+        ensures same { IfOk result (λ a. (answers : List AnswerView) → stands_with self.new a answers ≡ stands (table_spec self.old.table.now) self.old.levels.items self.old.fuel (placed (nest_of self.old.nest) (nested (table_spec self.old.table.now) self.old.locals.items here.entry tree.entry inner.entry outer.entry)) answers) }
         ensures low { IfOk result (λ a. load self.new.levels.items self.new.fuel (height a) ≤ load self.old.levels.items self.old.fuel 1) }
         ensures falls { IfOk result (λ a. load self.new.levels.items self.new.fuel (busy a) < load self.old.levels.items self.old.fuel 1) }
         ensures table { self.new.table ≡ self.old.table }

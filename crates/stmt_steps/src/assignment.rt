@@ -103,19 +103,26 @@ fn write_typed<'t>(
     let declared = &definition.declared;
     let nest = Nest::none();
     let tested = fitted(alloc, table, locals, nest, class, declared, place, value)?;
-    Ok(tested_write(me, var, place, tested))
+    tested_write(alloc, me, var, place, tested)
 }
 
 /// Where the value fits, the write is asked for.
-fn tested_write<'t>(me: u32, var: VarRef, place: Place, tested: Tested<'t>) -> Action<'t>
-    ensures same { (spec : SpecTree) (locals : Locals) → action_code spec locals result ≡ bind (tested_code (of_thread spec) place locals tested.entry) (with_value place (write_asked_plan me var place)) }
-    ensures falls { height result ≤ 2 }
+fn tested_write<'t>(
+    alloc: Global,
+    me: u32,
+    var: VarRef,
+    place: Place,
+    tested: Tested<'t>,
+) -> Result<Action<'t>, OutOfMemory>
+    ensures same { IfOk result (λ a. (spec : SpecTree) (locals : Locals) → action_code spec locals a ≡ bind (tested_code (of_thread spec) place locals tested.entry) (with_value place (write_asked_plan me var place))) }
+    ensures falls { IfOk result (λ a. height a ≤ 2) }
 {
     match tested {
-        Tested::Gives(value) => write_asked(me, var, place, value),
-        Tested::Fails(fault) => Action::Fail(fault, place),
+        Tested::Gives(value) => Ok(write_asked(me, var, place, value)),
+        Tested::Fails(fault) => Ok(Action::Fail(fault, place)),
         Tested::Asks(here, tree, inner) => {
-            Action::Test(here, tree, inner, Waiting::Write(me, var, place))
+            let outer = Waiting::Write(me, var, place);
+            Action::fit(alloc, here, tree, inner, outer)
         }
     }
 }

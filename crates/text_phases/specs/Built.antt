@@ -1,9 +1,6 @@
 -- What is built: the forms that have a meaning so far. Any other form is left out, and the first in text order is the fault's place.
-use Rattle.std.specs.Prelude.{◌≡◌, Bool, true, false, not, ◌&&◌, ◌||◌, nat_eq, if◌then◌else◌, List, [], ◌∷◌, Option, Some, None}
+use Rattle.std.specs.Prelude.{◌≡◌, Bool, true, false, not, ◌&&◌, ◌||◌, if◌then◌else◌, List, [], ◌∷◌, Option, Some, None}
 use Rattle.vdm_kinds.specs.NameList.{io}
-use Rattle.vdm_kinds.specs.declared.access.Access.{Access}
-use Rattle.vdm_kinds.specs.declared.access.Level.{Level}
-use Rattle.vdm_kinds.specs.declared.access.Level.TheVariants.{Private, Protected, Public}
 use Rattle.vdm_kinds.specs.declared.name.Name.{Name}
 use Rattle.vdm_kinds.specs.declared.name_at.NameAt.{NameAt}
 use Rattle.vdm_kinds.specs.declared.place.Place.{Place}
@@ -112,8 +109,22 @@ use Rattle.abstract_syntax.specs.Statements.{
   call,
   block,
   returns,
+  exits,
+  if_then,
+  while_do,
+  for_numbers,
+  always_after,
+  in_parallel,
+  skips,
+  errs,
   no_stmts,
   one_stmt,
+  MaybeStmt,
+  no_stmt,
+  given_stmt,
+  StmtBranches,
+  no_stmt_branches,
+  one_stmt_branch,
   stmt_place,
 }
 use Rattle.abstract_syntax.specs.Classes.{
@@ -329,34 +340,42 @@ abbrev pub unbuilt_in_locals : List DclTree → Option Place
 unbuilt_in_locals [] = None
 unbuilt_in_locals (dcl ∷ dcls) = Some dcl.place
 
+-- a part that may be left out
+abbrev pub unbuilt_if_given : Option ExprTree → Option Place
+unbuilt_if_given None = None
+unbuilt_if_given (Some part) = unbuilt_in_expr part
+
 abbrev mutual
-  -- where no `return` may stand: an assignment, a call, and a block of these
   pub unbuilt_in_stmt : StmtTree → Option Place
   unbuilt_in_stmt (assign target value place) = or_behind (unbuilt_in_target target) (unbuilt_in_expr value)
   unbuilt_in_stmt (call application place) = unbuilt_in_call application
   unbuilt_in_stmt (block locals statements place) = or_behind (unbuilt_in_locals locals) (unbuilt_in_stmts statements)
+  unbuilt_in_stmt (returns value place) = unbuilt_if_given value
+  unbuilt_in_stmt (exits value place) = unbuilt_if_given value
+  unbuilt_in_stmt (if_then condition body elseifs otherwise place) =
+      or_behind (unbuilt_in_expr condition)
+      (or_behind (unbuilt_in_stmt body) (or_behind (unbuilt_in_branch_stmts elseifs) (unbuilt_in_maybe_stmt otherwise)))
+  unbuilt_in_stmt (while_do condition body place) = or_behind (unbuilt_in_expr condition) (unbuilt_in_stmt body)
+  unbuilt_in_stmt (for_numbers name name_place first last by body place) =
+      or_behind (unbuilt_in_expr first) (or_behind (unbuilt_in_expr last) (or_behind (unbuilt_if_given by) (unbuilt_in_stmt body)))
+  unbuilt_in_stmt (always_after last body place) = or_behind (unbuilt_in_stmt last) (unbuilt_in_stmt body)
+  unbuilt_in_stmt (in_parallel statements place) = unbuilt_in_stmts statements
+  unbuilt_in_stmt (skips place) = None
+  unbuilt_in_stmt (errs place) = None
   unbuilt_in_stmt statement = Some (stmt_place statement)
 
   pub unbuilt_in_stmts : StmtTrees → Option Place
   unbuilt_in_stmts no_stmts = None
   unbuilt_in_stmts (one_stmt statement statements) = or_behind (unbuilt_in_stmt statement) (unbuilt_in_stmts statements)
 
--- where a `return` has to stand: one with a value
-abbrev pub unbuilt_in_return : StmtTree → Option Place
-unbuilt_in_return (returns (Some value) place) = unbuilt_in_expr value
-unbuilt_in_return statement = Some (stmt_place statement)
+  pub unbuilt_in_maybe_stmt : MaybeStmt → Option Place
+  unbuilt_in_maybe_stmt no_stmt = None
+  unbuilt_in_maybe_stmt (given_stmt statement) = unbuilt_in_stmt statement
 
--- statements of which the last has to be a `return`, in a block at this place
-abbrev pub unbuilt_to_return : Place → StmtTrees → Option Place
-unbuilt_to_return place no_stmts = Some place
-unbuilt_to_return place (one_stmt statement no_stmts) = unbuilt_in_return statement
-unbuilt_to_return place (one_stmt statement (one_stmt next statements)) =
-    or_behind (unbuilt_in_stmt statement) (unbuilt_to_return place (one_stmt next statements))
-
--- where a value has to be returned: a block that ends in its one `return`
-abbrev pub unbuilt_in_block : StmtTree → Option Place
-unbuilt_in_block (block locals statements place) = or_behind (unbuilt_in_locals locals) (unbuilt_to_return place statements)
-unbuilt_in_block statement = Some (stmt_place statement)
+  pub unbuilt_in_branch_stmts : StmtBranches → Option Place
+  unbuilt_in_branch_stmts no_stmt_branches = None
+  unbuilt_in_branch_stmts (one_stmt_branch condition statement branches) =
+      or_behind (unbuilt_in_expr condition) (or_behind (unbuilt_in_stmt statement) (unbuilt_in_branch_stmts branches))
 
 -- ---- types, values and functions
 
@@ -385,11 +404,6 @@ unbuilt_if_written (written body) = unbuilt_in_expr body
 unbuilt_if_written not_yet_specified = None
 unbuilt_if_written subclass_responsibility = None
 
--- a part that may be left out
-abbrev pub unbuilt_if_given : Option ExprTree → Option Place
-unbuilt_if_given None = None
-unbuilt_if_given (Some part) = unbuilt_in_expr part
-
 -- what is evaluated of a function: its `measure` never is
 abbrev pub unbuilt_in_function : FunctionTree → Option Place
 unbuilt_in_function f =
@@ -402,19 +416,9 @@ unbuilt_in_functions (f ∷ fs) = or_behind (unbuilt_in_function f) (unbuilt_in_
 
 -- ---- variables and operations
 
-abbrev pub is_same_place : Place → Place → Bool
-is_same_place a b = nat_eq a.line b.line && nat_eq a.column b.column
-
--- an initial value is given, or the place is that of the definition
-abbrev pub lacks_initial : Option ExprTree → Place → Option Place
-lacks_initial None place = Some place
-lacks_initial (Some value) place = None
-
--- a variable begins with its name, with no word of access, and has an initial value
+-- a variable that is not static
 abbrev pub unbuilt_in_variable : VariableTree → Option Place
-unbuilt_in_variable v =
-    or_behind (unless (is_same_place v.place v.name_place) v.place)
-    (or_behind (lacks_initial v.initial v.place) (unbuilt_if_given v.initial))
+unbuilt_in_variable v = or_behind (unless (not v.access.is_static) v.place) (unbuilt_if_given v.initial)
 
 abbrev pub unbuilt_in_item : VariableItem → Option Place
 unbuilt_in_item (variable_item v) = unbuilt_in_variable v
@@ -423,21 +427,6 @@ unbuilt_in_item (invariant_item condition place) = Some place
 abbrev pub unbuilt_in_items : List VariableItem → Option Place
 unbuilt_in_items [] = None
 unbuilt_in_items (item ∷ items) = or_behind (unbuilt_in_item item) (unbuilt_in_items items)
-
-abbrev is_public_level : Level → Bool
-is_public_level Public = true
-is_public_level Private = false
-is_public_level Protected = false
-
--- the one word `public`
-abbrev pub is_public : Access → Bool
-is_public access = not access.is_static && is_public_level access.level
-
--- a body is written, or the place is that of the definition
-abbrev pub lacks_body : Body StmtTree → Place → Option Place
-lacks_body (written body) place = None
-lacks_body not_yet_specified place = Some place
-lacks_body subclass_responsibility place = Some place
 
 -- no parameter is built
 abbrev pub unbuilt_in_parameters : List TypeTree → Option Place
@@ -448,11 +437,11 @@ abbrev pub unbuilt_in_parameter_patterns : List PatternTree → Option Place
 unbuilt_in_parameter_patterns [] = None
 unbuilt_in_parameter_patterns (pattern ∷ patterns) = Some (pattern_place pattern)
 
--- a body without a result returns nothing, and one with a result returns a value at its end
-abbrev pub unbuilt_in_body : Option TypeTree → Body StmtTree → Option Place
-unbuilt_in_body None (written body) = unbuilt_in_stmt body
-unbuilt_in_body (Some declared) (written body) = unbuilt_in_block body
-unbuilt_in_body result _ = None
+-- a body that isn't written is built
+abbrev pub unbuilt_in_body : Body StmtTree → Option Place
+unbuilt_in_body (written body) = unbuilt_in_stmt body
+unbuilt_in_body not_yet_specified = None
+unbuilt_in_body subclass_responsibility = None
 
 -- no condition is built
 abbrev pub unbuilt_in_condition : Option ExprTree → Option Place
@@ -463,17 +452,15 @@ unbuilt_in_condition (Some condition) = Some (expr_first condition)
 abbrev pub is_constructor : Name → OperationTree → Bool
 is_constructor class o = is_same_name o.name class
 
--- the head of an operation is that of a public one with a body, without parameters, which is no constructor
+-- the head of an operation is that of one without parameters that is neither static nor a constructor
 abbrev pub unbuilt_in_head : Name → OperationTree → Option Place
 unbuilt_in_head class o =
-    or_behind (unless (is_public o.access && not (is_constructor class o)) o.place)
-    (or_behind (lacks_body o.body o.place)
-    (or_behind (unbuilt_in_parameters o.parameters) (unbuilt_in_parameter_patterns o.patterns)))
+    or_behind (unless (not o.access.is_static && not (is_constructor class o)) o.place)
+    (or_behind (unbuilt_in_parameters o.parameters) (unbuilt_in_parameter_patterns o.patterns))
 
 -- behind it stand the body, and no condition
 abbrev pub unbuilt_behind_head : OperationTree → Option Place
-unbuilt_behind_head o =
-    or_behind (unbuilt_in_body o.result_type o.body) (or_behind (unbuilt_in_condition o.pre) (unbuilt_in_condition o.post))
+unbuilt_behind_head o = or_behind (unbuilt_in_body o.body) (or_behind (unbuilt_in_condition o.pre) (unbuilt_in_condition o.post))
 
 -- ... of a class with this name
 abbrev pub unbuilt_in_operation : Name → OperationTree → Option Place

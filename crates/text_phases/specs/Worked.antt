@@ -9,8 +9,8 @@ use Rattle.vdm_kinds.specs.declared.place.Place.{Place}
 use Rattle.vdm_kinds.specs.declared.sign.Sign.{Sign}
 use Rattle.abstract_syntax.specs.Literals.{whole_literal, boolean_literal}
 use Rattle.abstract_syntax.specs.Types.{TypeTree, basic_type}
-use Rattle.abstract_syntax.specs.Expressions.{ExprTree, ExprTrees, PatternTree, BindTrees, literal, named, self_object, joined, create, apply, select, no_exprs, one_expr, bind_in, no_binds, one_bind, equal_to, record_pattern, no_patterns, one_pattern}
-use Rattle.abstract_syntax.specs.Statements.{variable, StmtTree, StmtTrees, assign, call, block, returns, no_stmts, one_stmt}
+use Rattle.abstract_syntax.specs.Expressions.{ExprTree, ExprTrees, PatternTree, BindTrees, literal, named, self_object, current_time, joined, create, apply, select, no_exprs, one_expr, bind_in, no_binds, one_bind, equal_to, record_pattern, no_patterns, one_pattern}
+use Rattle.abstract_syntax.specs.Statements.{variable, StmtTree, StmtTrees, StmtBranches, MaybeStmt, assign, call, block, returns, if_then, for_numbers, start_thread, no_stmts, one_stmt, no_stmt_branches, one_stmt_branch}
 use Rattle.abstract_syntax.specs.Classes.{TypeDefTree, same_as, ValueDefTree, VariableTree, variable_item, written, FunctionTree, OperationTree, BlockTree, variables, operations, ClassTree, SpecTree}
 
 abbrev pub at : ℕ → Place
@@ -87,8 +87,28 @@ set_to name value column = assign (variable name [] (at column)) value (at colum
 abbrev pub call_to : Name → ℕ → StmtTree
 call_to name column = call (applied (use_of name column) no_exprs (column + 2)) (at column)
 
+-- `time()`, a call of which nothing is built, from this column on
+abbrev pub current_call : ℕ → StmtTree
+current_call column = call (applied (current_time (at column)) no_exprs (column + 4)) (at column)
+
 abbrev pub gives : ExprTree → ℕ → StmtTree
 gives value column = returns (Some value) (at column)
+
+-- `start(object)`
+abbrev pub starting : ExprTree → ℕ → StmtTree
+starting object column = start_thread object (at column)
+
+-- `if condition then body ..`, from column 1 on
+abbrev pub chosen : ExprTree → StmtTree → StmtBranches → MaybeStmt → StmtTree
+chosen condition body elseifs otherwise = if_then condition body elseifs otherwise (at 1)
+
+-- `elseif self then time()`, with its condition in this column
+abbrev pub another_branch : ℕ → StmtBranches
+another_branch column = one_stmt_branch (self_object (at column)) (current_call (column + 10)) no_stmt_branches
+
+-- `for n = first to last by step do body`, from column 1 on
+abbrev pub counted : ExprTree → ExprTree → Option ExprTree → StmtTree → StmtTree
+counted first last by body = for_numbers n (at 5) first last by body (at 1)
 
 -- ---- classes
 

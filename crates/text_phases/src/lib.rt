@@ -7,5 +7,5 @@ mod worked;
 pub use laws::{one_answer, one_specification, phases_follow, variables_stand_alone};
 pub use worked::{
     built_bindings, built_classes, built_expressions, built_functions, built_operations,
-    built_records, refused_behind, refused_in_turn,
+    built_records, built_statements, refused_behind, refused_in_turn,
 };

@@ -2,20 +2,20 @@
 
 ghost use Rattle.std.specs.Prelude.{◌≡◌, true, false, [], ◌∷◌, Some, None};
 ghost use Rattle.vdm_kinds.specs.NameList.{io};
-ghost use Rattle.vdm_kinds.specs.declared.access.Level.TheVariants.{Protected};
-ghost use Rattle.vdm_kinds.specs.declared.basic_type.BasicType.TheVariants.{Char, Nat, Token};
+ghost use Rattle.vdm_kinds.specs.declared.access.Level.TheVariants.{Private, Protected, Public};
+ghost use Rattle.vdm_kinds.specs.declared.basic_type.BasicType.TheVariants.{Nat, Token};
 ghost use Rattle.vdm_kinds.specs.declared.counter.Counter.TheVariants.{Finishes};
 ghost use Rattle.vdm_kinds.specs.declared.sign.Sign.TheVariants.{Plus, Minus, Negative};
 ghost use Rattle.vdm_kinds.specs.declared.spec_kind.SpecKind.TheVariants.{LeftOut, UnknownName, Duplicate};
 ghost use Rattle.vdm_lexer.specs.Lexemes.{fault_at};
 ghost use Rattle.abstract_syntax.specs.Types.{basic_type, bracketed_type};
 ghost use Rattle.abstract_syntax.specs.Expressions.{qualified, self_object, current_time, result_value, bracketed, prefixed, set_comprehension, map_enumeration, make_record, modify_record, is_of_type, is_of_named, is_of_basic, is_of_class, same_class, history, select_of_class, let_in, let_be, def_in, if_else, cases_of, for_all, no_exprs, one_expr, left_out, given_expr, no_maplets, one_maplet, no_field_values, one_field_value, no_defined, one_defined, no_branches, one_branch, no_cases, one_case, bind_in, any_value, bound, equal_to, map_pattern, tuple_pattern, record_pattern, no_patterns, one_pattern, no_maplet_patterns, one_maplet_pattern};
-ghost use Rattle.abstract_syntax.specs.Statements.{variable, variable_of_class, element_at, field_of, assign, call, block, returns, skips, no_stmts};
+ghost use Rattle.abstract_syntax.specs.Statements.{variable, variable_of_class, element_at, assign, call, returns, exits, cases_then, while_do, for_set, for_sequence, trap_exit, always_after, in_parallel, skips, errs, no_stmt, given_stmt, no_stmt_branches, one_stmt_branch, no_stmt_cases};
 ghost use Rattle.abstract_syntax.specs.Classes.{variable_item, invariant_item, not_yet_specified, subclass_responsibility, procedural, types, values, variables, functions, operations, thread_of, synchronisation};
 ghost use Rattle.class_meaning.specs.Classes.{print, println};
 ghost use Rattle.text_phases.specs.Built.{unbuilt_in_expr, unbuilt_if_given, unbuilt_in_stmt, unbuilt_in_function, unbuilt_in_variable, unbuilt_in_operation, unbuilt_in_superclasses, unbuilt_in_spec};
 ghost use Rattle.text_phases.specs.Phases.{checks_fault, main_checks_fault};
-ghost use Rattle.text_phases.specs.Worked.{at, name, class_name, n, op, one, truth, use_of, sign_between, applied, selected, new_of, an_argument, call_of_new, a_bind, type_at, record_at, in_block, set_to, call_to, gives, nat_type, a_variable, an_operation, a_type, type_where, a_value, a_function, a_class, spec_of, spec_of_two, spec_below, spec_with, spec_over};
+ghost use Rattle.text_phases.specs.Worked.{at, name, class_name, n, op, one, truth, use_of, sign_between, applied, selected, new_of, an_argument, call_of_new, a_bind, type_at, record_at, listed, in_block, set_to, call_to, current_call, gives, starting, chosen, another_branch, counted, nat_type, a_variable, an_operation, a_type, type_where, a_value, a_function, a_class, spec_of, spec_of_two, spec_below, spec_with, spec_over};
 
 /// Expressions: names, what is called, selected and made.
 pub fn built_expressions()
@@ -81,9 +81,10 @@ pub fn built_bindings()
     ensures choice { unbuilt_in_expr (let_be (bind_in (one_pattern (any_value (at 5)) no_patterns) (use_of n 14)) left_out (one 20) (at 1)) ≡ None }
 {}
 
-/// Statements and operations.
-pub fn built_operations()
-    ensures skip { unbuilt_in_stmt (skips (at 1)) ≡ Some (at 1) }
+/// Statements.
+pub fn built_statements()
+    ensures skip { unbuilt_in_stmt (skips (at 1)) ≡ None }
+    ensures error { unbuilt_in_stmt (errs (at 1)) ≡ None }
     ensures step { unbuilt_in_stmt (assign (variable n (element_at (one 3) (at 2) ∷ []) (at 1)) (current_time (at 8)) (at 1)) ≡ Some (at 2) }
     ensures other_class { unbuilt_in_stmt (assign (variable_of_class class_name n (at 3) [] (at 1)) (one 8) (at 1)) ≡ Some (at 1) }
     ensures value { unbuilt_in_stmt (set_to n (current_time (at 6)) 1) ≡ Some (at 6) }
@@ -91,25 +92,58 @@ pub fn built_operations()
     ensures head { unbuilt_in_stmt (call (applied (selected (self_object (at 1)) op 5) no_exprs 8) (at 1)) ≡ Some (at 1) }
     ensures on_another { unbuilt_in_stmt (call (applied (selected (use_of n 1) op 2) (an_argument 6) 5) (at 1)) ≡ None }
     ensures twice { unbuilt_in_stmt (call (applied (applied (use_of op 1) no_exprs 3) no_exprs 5) (at 1)) ≡ None }
-    ensures nested { unbuilt_in_stmt (in_block (set_to n (truth 7) 2 ∷ in_block (call_to op 11 ∷ skips (at 17) ∷ []) 10 ∷ []) 1) ≡ Some (at 17) }
-    ensures returned { unbuilt_in_spec (spec_with None (in_block (gives (one 59) 52 ∷ []) 51)) ≡ Some (at 52) }
-    ensures no_block { unbuilt_in_spec (spec_with (Some nat_type) (gives (one 58) 51)) ≡ Some (at 51) }
-    ensures no_return { unbuilt_in_spec (spec_with (Some nat_type) (in_block (call_to op 52 ∷ []) 51)) ≡ Some (at 52) }
-    ensures early { unbuilt_in_spec (spec_with (Some nat_type) (in_block (gives (one 59) 52 ∷ gives (one 69) 62 ∷ []) 51)) ≡ Some (at 52) }
-    ensures no_value { unbuilt_in_spec (spec_with (Some nat_type) (in_block (returns None (at 52) ∷ []) 51)) ≡ Some (at 52) }
-    ensures at_its_end { unbuilt_in_spec (spec_with (Some nat_type) (in_block (call_to op 52 ∷ gives (truth 65) 58 ∷ []) 51)) ≡ None }
+    ensures nested { unbuilt_in_stmt (in_block (set_to n (truth 7) 2 ∷ in_block (call_to op 11 ∷ starting (use_of n 23) 17 ∷ []) 10 ∷ []) 1) ≡ Some (at 17) }
+    ensures no_value { unbuilt_in_stmt (in_block (returns None (at 2) ∷ exits None (at 10) ∷ gives (one 23) 16 ∷ []) 1) ≡ None }
+    ensures returned { unbuilt_in_stmt (gives (self_object (at 8)) 1) ≡ Some (at 8) }
+    ensures exited { unbuilt_in_stmt (exits (Some (current_time (at 6))) (at 1)) ≡ Some (at 6) }
+    ensures condition { unbuilt_in_stmt (chosen (self_object (at 4)) (current_call 14) no_stmt_branches no_stmt) ≡ Some (at 4) }
+    ensures first_branch { unbuilt_in_stmt (chosen (truth 4) (current_call 14) (another_branch 30) (given_stmt (current_call 50))) ≡ Some (at 14) }
+    ensures other_condition { unbuilt_in_stmt (chosen (truth 4) (skips (at 14)) (another_branch 30) (given_stmt (current_call 50))) ≡ Some (at 30) }
+    ensures second_branch { unbuilt_in_stmt (chosen (truth 4) (skips (at 14)) (one_stmt_branch (truth 30) (current_call 40) no_stmt_branches) no_stmt) ≡ Some (at 40) }
+    ensures otherwise { unbuilt_in_stmt (chosen (truth 4) (skips (at 14)) (one_stmt_branch (truth 30) (skips (at 40)) no_stmt_branches) (given_stmt (current_call 50)))
+        ≡ Some (at 50) }
+    ensures no_else { unbuilt_in_stmt (chosen (truth 4) (skips (at 14)) no_stmt_branches no_stmt) ≡ None }
+    ensures while_condition { unbuilt_in_stmt (while_do (self_object (at 7)) (current_call 15) (at 1)) ≡ Some (at 7) }
+    ensures while_body { unbuilt_in_stmt (while_do (truth 7) (current_call 15) (at 1)) ≡ Some (at 15) }
+    ensures from { unbuilt_in_stmt (counted (self_object (at 9)) (current_time (at 20)) (Some (current_time (at 30))) (current_call 40)) ≡ Some (at 9) }
+    ensures to { unbuilt_in_stmt (counted (one 9) (current_time (at 20)) (Some (self_object (at 30))) (current_call 40)) ≡ Some (at 20) }
+    ensures by { unbuilt_in_stmt (counted (one 9) (one 20) (Some (self_object (at 30))) (current_call 40)) ≡ Some (at 30) }
+    ensures round { unbuilt_in_stmt (counted (one 9) (one 20) None (current_call 40)) ≡ Some (at 40) }
+    ensures rounds { unbuilt_in_stmt (counted (one 9) (one 20) (Some (one 30)) (skips (at 40))) ≡ None }
+    ensures last_first { unbuilt_in_stmt (always_after (current_call 8) (current_call 30) (at 1)) ≡ Some (at 8) }
+    ensures after_body { unbuilt_in_stmt (always_after (skips (at 8)) (current_call 30) (at 1)) ≡ Some (at 30) }
+    ensures parallel { unbuilt_in_stmt (in_parallel (listed (skips (at 4) ∷ current_call 10 ∷ [])) (at 1)) ≡ Some (at 10) }
+    ensures chosen_by { unbuilt_in_stmt (cases_then (one 7) no_stmt_cases (given_stmt (skips (at 20))) (at 1)) ≡ Some (at 1) }
+    ensures all_of { unbuilt_in_stmt (for_set (bound n (at 9)) (use_of n 18) (skips (at 30)) (at 1)) ≡ Some (at 1) }
+    ensures items_of { unbuilt_in_stmt (for_sequence (bound n (at 5)) (use_of n 10) (skips (at 30)) (at 1)) ≡ Some (at 1) }
+    ensures trapped { unbuilt_in_stmt (trap_exit (bound n (at 6)) (skips (at 13)) (errs (at 21)) (at 1)) ≡ Some (at 1) }
+{}
+
+/// Operations.
+pub fn built_operations()
+    ensures returned { unbuilt_in_spec (spec_with None (in_block (gives (one 59) 52 ∷ []) 51)) ≡ None }
+    ensures no_block { unbuilt_in_spec (spec_with (Some nat_type) (gives (one 58) 51)) ≡ None }
+    ensures no_return { unbuilt_in_spec (spec_with (Some nat_type) (in_block (call_to op 52 ∷ []) 51)) ≡ None }
+    ensures early { unbuilt_in_spec (spec_with (Some nat_type) (in_block (gives (one 59) 52 ∷ gives (self_object (at 69)) 62 ∷ []) 51)) ≡ Some (at 69) }
     ensures in_value { unbuilt_in_spec (spec_with (Some nat_type) (in_block (gives (self_object (at 59)) 52 ∷ []) 51)) ≡ Some (at 59) }
     ensures any_type { unbuilt_in_spec (spec_with (Some (basic_type Token (at 44))) (in_block (gives (one 59) 52 ∷ []) 51)) ≡ None }
-    ensures other_type { unbuilt_in_spec (spec_with (Some (basic_type Char (at 44))) (skips (at 60))) ≡ Some (at 60) }
-    ensures private { unbuilt_in_operation class_name (record (an_operation op None (skips (at 60)) 30) { access = record { is_static = false; level = Protected } })
+    ensures protected { unbuilt_in_operation class_name (record (an_operation op None (skips (at 60)) 30) { access = record { is_static = false; level = Protected } })
+        ≡ None }
+    ensures private { unbuilt_in_operation class_name (record (an_operation op None (skips (at 60)) 30) { access = record { is_static = false; level = Private } })
+        ≡ None }
+    ensures static_one { unbuilt_in_operation class_name (record (an_operation op None (skips (at 60)) 30) { access = record { is_static = true; level = Public } })
         ≡ Some (at 30) }
     ensures no_body { unbuilt_in_operation class_name (record (an_operation op (Some (basic_type Token (at 44))) (skips (at 60)) 30) { body = not_yet_specified })
-        ≡ Some (at 30) }
+        ≡ None }
+    ensures of_subclasses { unbuilt_in_operation class_name (record (an_operation op None (skips (at 60)) 30) { body = subclass_responsibility; post = Some (truth 70) })
+        ≡ Some (at 70) }
     ensures constructor { unbuilt_in_operation class_name (an_operation class_name None (call_to op 60) 30) ≡ Some (at 30) }
     ensures parameter { unbuilt_in_operation class_name (record (an_operation op None (skips (at 60)) 30) { parameters = nat_type ∷ []; patterns = bound n (at 50) ∷ [] })
         ≡ Some (at 20) }
+    ensures parameter_first { unbuilt_in_operation class_name (record (an_operation op None (current_call 60) 30) { patterns = bound n (at 50) ∷ [] }) ≡ Some (at 50) }
     ensures condition { unbuilt_in_operation class_name (record (an_operation op None (call_to op 60) 30) { pre = Some (sign_between (one 70) Minus 72 (one 74)) })
         ≡ Some (at 70) }
+    ensures body_first { unbuilt_in_operation class_name (record (an_operation op None (current_call 60) 30) { pre = Some (truth 70) }) ≡ Some (at 60) }
 {}
 
 /// Types, values and functions, of any class.
@@ -139,17 +173,19 @@ pub fn built_functions()
 
 /// Variables, blocks and classes.
 pub fn built_classes()
-    ensures access_word { unbuilt_in_variable (record (a_variable n 37) { place = at 30 }) ≡ Some (at 30) }
-    ensures no_initial { unbuilt_in_variable (record (a_variable n 30) { declared = basic_type Token (at 34); initial = None }) ≡ Some (at 30) }
+    ensures access_word { unbuilt_in_variable (record (a_variable n 37) { access = record { is_static = false; level = Public }; place = at 30 }) ≡ None }
+    ensures static_one { unbuilt_in_variable (record (a_variable n 37) { access = record { is_static = true; level = Private }; initial = Some (self_object (at 48)); place = at 30 })
+        ≡ Some (at 30) }
+    ensures no_initial { unbuilt_in_variable (record (a_variable n 30) { declared = basic_type Token (at 34); initial = None }) ≡ None }
     ensures any_type { unbuilt_in_variable (record (a_variable n 30) { declared = bracketed_type (basic_type Token (at 35)) (at 34) }) ≡ None }
     ensures initial { unbuilt_in_variable (record (a_variable n 30) { initial = Some (self_object (at 41)) }) ≡ Some (at 41) }
     ensures invariant { unbuilt_in_spec (spec_of (variables (invariant_item (truth 34) (at 30) ∷ []) (at 9) ∷ [])) ≡ Some (at 30) }
     ensures empty_block { unbuilt_in_spec (spec_of (variables [] (at 9) ∷ operations [] (at 29) ∷ [])) ≡ None }
-    ensures other_block { unbuilt_in_spec (spec_of (types [] (at 9) ∷ operations (an_operation op None (skips (at 60)) 30 ∷ []) (at 20) ∷ [])) ≡ Some (at 60) }
+    ensures other_block { unbuilt_in_spec (spec_of (types [] (at 9) ∷ operations (an_operation op None (current_call 60) 30 ∷ []) (at 20) ∷ [])) ≡ Some (at 60) }
     ensures behind_operations { unbuilt_in_spec (spec_of (operations (an_operation op None (call_to op 60) 30 ∷ []) (at 9)
         ∷ variables (variable_item (a_variable n 80) ∷ []) (at 70) ∷ [])) ≡ None }
     ensures second_block { unbuilt_in_spec (spec_of (variables (variable_item (a_variable n 30) ∷ []) (at 9)
-        ∷ variables (variable_item (record (a_variable op 80) { initial = None }) ∷ []) (at 70) ∷ [])) ≡ Some (at 80) }
+        ∷ variables (variable_item (record (a_variable op 80) { initial = Some (self_object (at 91)) }) ∷ []) (at 70) ∷ [])) ≡ Some (at 91) }
     ensures thread { unbuilt_in_spec (spec_of (thread_of (procedural (skips (at 16))) (at 9) ∷ [])) ≡ Some (at 9) }
     ensures synchronised { unbuilt_in_spec (spec_of (synchronisation [] (at 9) ∷ [])) ≡ Some (at 9) }
     ensures second_class { unbuilt_in_spec (spec_of_two [] []) ≡ None }
@@ -173,14 +209,14 @@ pub fn refused_in_turn()
     ensures table_first { checks_fault (spec_of (operations (an_operation op None (call_to n 50) 30
         ∷ an_operation op None (call_to op 90) 60 ∷ []) (at 9) ∷ [])) ≡ Some (fault_at Duplicate (at 67)) }
     ensures target { checks_fault (spec_over None (set_to op (use_of class_name 87) 82)) ≡ Some (fault_at UnknownName (at 82)) }
-    ensures not_built { checks_fault (spec_over None (skips (at 82))) ≡ None }
+    ensures not_built { checks_fault (spec_over None (in_block (starting (new_of no_exprs 89) 83 ∷ []) 82)) ≡ None }
 {}
 
 /// What refuses an expression first: its checks, and then what is not built, of the specification before the expression.
 #[tactic(auto, unfolding(crate::specs::Phases::main_checks_fault, class_checks::specs::Expressions::check, class_checks::specs::Expressions::listed, class_checks::specs::Expressions::pairs_in, class_checks::specs::Expressions::changed, class_checks::specs::Expressions::applied, class_checks::specs::Expressions::where_true, class_checks::specs::Expressions::bound_by, class_checks::specs::Expressions::one_bound, class_checks::specs::Expressions::defined_in, class_checks::specs::Expressions::branches, class_checks::specs::Expressions::others_in, class_checks::specs::Expressions::cases_in, class_checks::specs::Expressions::givens, class_checks::specs::Expressions::givens_each, class_checks::specs::Expressions::givens_maplets, class_checks::specs::Results::after))]
 pub fn refused_behind()
-    ensures unknown { main_checks_fault (spec_over None (skips (at 82))) (sign_between (one 1) Plus 3 (use_of n 5)) ≡ Some (fault_at UnknownName (at 5)) }
-    ensures not_built { main_checks_fault (spec_over None (skips (at 82))) (sign_between (one 1) Minus 3 (one 5)) ≡ Some (fault_at LeftOut (at 82)) }
+    ensures unknown { main_checks_fault (spec_over None (starting (new_of no_exprs 88) 82)) (sign_between (one 1) Plus 3 (use_of n 5)) ≡ Some (fault_at UnknownName (at 5)) }
+    ensures not_built { main_checks_fault (spec_over None (starting (new_of no_exprs 88) 82)) (sign_between (one 1) Minus 3 (one 5)) ≡ Some (fault_at LeftOut (at 82)) }
     ensures expression { main_checks_fault (spec_over None (call_to op 82)) (sign_between (one 1) Minus 3 (current_time (at 5))) ≡ Some (fault_at LeftOut (at 5)) }
     ensures sum { main_checks_fault (spec_over None (call_to op 82)) (sign_between (one 1) Plus 3 (one 5)) ≡ None }
     ensures called { main_checks_fault (spec_over None (call_to op 82)) (call_of_new no_exprs) ≡ None }

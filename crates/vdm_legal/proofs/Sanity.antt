@@ -22,12 +22,13 @@ pub record IsSane (entries : List Entry) : Type 0 where
   pub known : AllKnown entries entries
   pub unfinished : finish_of entries ≡ None
 
--- the later entries are the earlier ones and more, by which requests, activations and finishes rise alike
+-- The later entries are the earlier ones and more, by which requests and activations rise alike, and finishes by no more: a call that an
+-- exit left behind its body, in the test of its result, never finishes.
 pub record IsWithin (first later : List Entry) : Type 0 where
   pub more : List Entry
   pub behind : later ≡ first ++ more
   pub begun : (o : ℕ) (name : Name) → counted (is_request name) o later + counted (is_activation name) o first ≡ counted (is_request name) o first + counted (is_activation name) o later
-  pub done : (o : ℕ) (name : Name) → counted (is_request name) o later + counted (is_finish name) o first ≡ counted (is_request name) o first + counted (is_finish name) o later
+  pub done : (o : ℕ) (name : Name) → counted (is_request name) o first + counted (is_finish name) o later ≤ counted (is_request name) o later + counted (is_finish name) o first
 
 pub within-self : (entries : List Entry) → IsWithin entries entries
 within-self entries = record { more = []; behind = sym (append-nil entries); begun = λ o name. omega arith; done = λ o name. omega arith }
@@ -156,6 +157,23 @@ module _ (before : List Entry) (me : ℕ) (op : OpRef) (sane : IsSane before) wh
           omega (arith, sane.done o name, t.activated, t.finished, s.activated, s.finished, within.begun o name, within.done o name, u.activated, u.finished);
       known = known-more after (entry Main me (deed.Fin op)) still.known tt;
       unfinished = finish-last after (entry Main me (deed.Fin op)) still.unfinished;
+    }
+
+    -- where an exit left the call, it does not finish
+    pub left-within : IsWithin before after
+    left-within = record {
+      more = entry Main me (deed.Req op) ∷ entry Main me (deed.Act op) ∷ within.more;
+      behind = within.behind
+          ∙ append_assoc (behind_request before me op) (entry Main me (deed.Act op) ∷ []) within.more
+          ∙ append_assoc before (entry Main me (deed.Req op) ∷ []) (entry Main me (deed.Act op) ∷ within.more);
+      begun = λ o name.
+          let t = req-tally before me op o name in
+          let s = act-tally (behind_request before me op) me op o name in
+          omega (arith, t.requested, t.activated, s.requested, s.activated, within.begun o name);
+      done = λ o name.
+          let t = req-tally before me op o name in
+          let s = act-tally (behind_request before me op) me op o name in
+          omega (arith, t.requested, t.finished, s.requested, s.finished, within.done o name);
     }
 
     pub finished-within : IsWithin before (behind_finish after me op)

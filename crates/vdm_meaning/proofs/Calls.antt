@@ -8,6 +8,7 @@ use Rattle.vdm_values.specs.declared.slot.Slot.{Slot}
 use Rattle.vdm_values.specs.declared.slot.Slot.TheVariants.{Unset, Held}
 use Rattle.abstract_syntax.specs.Types.{TypeTree}
 use Rattle.abstract_syntax.specs.Statements.{StmtTree}
+use Rattle.abstract_syntax.specs.Values.{ValueTree}
 use Rattle.abstract_syntax.specs.Classes.{Body, OperationTree, SpecTree, written}
 use Rattle.run_journal.specs.declared.answer.Answer.{Answer}
 use Rattle.run_journal.specs.declared.answer.Answer.TheVariants.{Done}
@@ -17,11 +18,11 @@ use Rattle.run_journal.specs.declared.thread.Thread.TheVariants.{Main}
 use Rattle.run_journal.specs.Made.{entry}
 use Rattle.run_journal.specs.Parts.{object_part}
 use Rattle.run_journal.specs.declared.deed.Deed.TheVariants as deed
-use Rattle.plans.specs.Plans.{finish}
-use Rattle.vdm_legal.proofs.Known.{IsKnownSlot, slot-on}
-use Rattle.vdm_legal.proofs.Sanity.{IsSane, IsWithin, act-waits, begun-sane, behind_activation, behind_finish, behind_request, fin-waits, finished-sane, finished-within, request-sane, within-then}
+use Rattle.plans.specs.Plans.{ask, finish}
+use Rattle.vdm_legal.proofs.Known.{IsKnown, IsKnownSlot, known-on, slot-on}
+use Rattle.vdm_legal.proofs.Sanity.{IsSane, IsWithin, act-waits, begun-sane, behind_activation, behind_finish, behind_request, fin-waits, finished-sane, finished-within, left-within, request-sane, within-then}
 use Rattle.node_meaning.specs.Envs.{Here, Locals, inside, no_nest}
-use Rattle.node_meaning.specs.Tasks.{Flow, exited, gave, next, returned, with_value}
+use Rattle.node_meaning.specs.Tasks.{Flow, exited, gave, next, noted, returned, with_value}
 use Rattle.node_meaning.specs.Fitting.{fitted}
 use Rattle.node_meaning.specs.Calls.{given_slot, given, finished, finished_with, left_with, ended, begun, activated, requested, called, Wanted, a_value, no_value}
 use Rattle.vdm_meaning.proofs.Rules.{AreKnown, GivesKnown, IsSafe, IsSafeWith, MayLeave, MayRun, rules}
@@ -77,14 +78,23 @@ module _ (spec : SpecTree) where
       at-end : IsAt first (behind_finish after me op) here locals
       at-end = at-later is_at (finished-within before me op is_at.may.sane after w) (finished-sane before me op is_at.may.sane after w sane)
 
+      -- the call finishes, with what is known behind that
+      safe-end : (flow : Flow) → GivesKnown (behind_finish after me op) flow → IsSafeWith spec (Some 1) first after (ask (noted (Fin me op)) (λ answer. finish flow))
+      safe-end flow known =
+          safe-ask spec MayLeave first after 0 (λ answer. finish flow) (Fin me op) (entry Main me (deed.Fin op)) (λ a taken is. is)
+          (record { ready = (callee-done.me, fin-waits before me op is_at.may.sane after w); sane = sane })
+          (safe-finish spec (Some 0) flow at-end known)
+
       -- what the caller goes on with, once the finish is answered
       safe-finished : (slot : Slot) (others : Locals) → IsKnownSlot after slot → AreKnown after others → IsSafeWith spec (Some 1) first after (finished me op slot others)
       safe-finished slot others known kept =
           let end = entry Main me (deed.Fin op) ∷ [] in
-          safe-ask spec MayLeave first after 0 (λ answer. finish (gave slot others)) (Fin me op) (entry Main me (deed.Fin op)) (λ a taken is. is)
-          (record { ready = (callee-done.me, fin-waits before me op is_at.may.sane after w); sane = sane })
-          (safe-finish spec (Some 0) (gave slot others) at-end
-          (slot-on after end (behind_finish after me op) refl slot known, locals-on after end (behind_finish after me op) refl others kept))
+          safe-end (gave slot others) (slot-on after end (behind_finish after me op) refl slot known, locals-on after end (behind_finish after me op) refl others kept)
+
+      -- an exit that left the body
+      safe-exited : (v : ValueTree) (from : Place) → IsKnown after v → IsSafeWith spec (Some 1) first after (ask (noted (Fin me op)) (λ answer. finish (exited v from locals)))
+      safe-exited v from known =
+          safe-end (exited v from locals) (known-on after (entry Main me (deed.Fin op) ∷ []) (behind_finish after me op) refl v known, at-end.may.known)
 
     -- behind the test of the result
     safe-tested : (after : List Entry) → IsWithin (behind_activation before me op) after → IsSane after → (flow : Flow) → GivesKnown after flow → IsSafeWith spec (Some 1) first after (with_value place (finished_with me op) flow)
@@ -92,7 +102,7 @@ module _ (spec : SpecTree) where
     safe-tested after w sane (gave Unset others) known = may-fail spec Undefined place (callee-done after w sane)
     safe-tested after w sane (next others) known = may-fail spec Undefined place (callee-done after w sane)
     safe-tested after w sane (returned slot others) known = may-fail spec Undefined place (callee-done after w sane)
-    safe-tested after w sane (exited v from others) known = absurd known
+    safe-tested after w sane (exited v from others) known = (within-then first before after is_at.within (left-within before me op is_at.may.sane after w), (sane, known))
 
     module _ (after : List Entry) (w : IsWithin (behind_activation before me op) after) (sane : IsSane after) where
       safe-left_with : (declared : Option TypeTree) (slot : Slot) → IsKnownSlot after slot → IsSafeWith spec (Some 1) first after (left_with spec me op declared place slot locals)
@@ -109,7 +119,7 @@ module _ (spec : SpecTree) where
       safe-ended (gave slot inner) known = may-fail spec Undefined place (callee-done after w sane)
       safe-ended (next inner) known = safe-left_with operation.result_type Unset tt
       safe-ended (returned slot inner) known = safe-left_with operation.result_type slot known.0
-      safe-ended (exited v from inner) known = absurd known
+      safe-ended (exited v from inner) known = safe-exited after w sane v from known.0
 
     safe-begun : (body : Body StmtTree) → IsSafeWith spec (Some 1) first (behind_activation before me op) (begun spec me own op operation.result_type place locals body)
     safe-begun (written body) = (callee-begun, λ after flow w leaves. safe-ended after w leaves.0 flow leaves.1)

@@ -7,8 +7,10 @@ pub mod Chosen
 pub mod Expressions
 pub mod Finishing
 pub mod Fitting
+pub mod Flows
 pub mod Functions
 pub mod GoingOn
+pub mod Loops
 pub mod Main
 pub mod Matching
 pub mod Names

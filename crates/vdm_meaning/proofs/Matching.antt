@@ -42,7 +42,7 @@ IsAny entries b = Unit {0}
 module _ (spec : SpecTree) (n : Option ℕ) where
   -- ---- conditions
 
-  safe-on_truth : {first now : List Entry} {here : Here} {locals : Locals} (place : Place) (further : Bool → Locals → Code) (v : ValueTree) → IsAt first now here locals → ((b : Bool) → IsSafeWith spec n first now (further b locals)) → IsSafeWith spec n first now (on_truth place further v locals)
+  pub safe-on_truth : {first now : List Entry} {here : Here} {locals : Locals} (place : Place) (further : Bool → Locals → Code) (v : ValueTree) → IsAt first now here locals → ((b : Bool) → IsSafeWith spec n first now (further b locals)) → IsSafeWith spec n first now (on_truth place further v locals)
   safe-on_truth place further (boolean b) is_at h = h b
   safe-on_truth place further v is_at h = may-fail spec TypeFault place is_at.may
 

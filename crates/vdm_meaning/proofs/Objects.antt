@@ -20,7 +20,7 @@ use Rattle.node_meaning.specs.Tasks.{Code, Flow, exited, gave, next, returned}
 use Rattle.node_meaning.specs.Objects.{created, initial_of, initial_then, initial_value, initialise, make_object, new_object, object_asked}
 use Rattle.node_meaning.specs.Names.{variable_definition}
 use Rattle.vdm_meaning.proofs.Rules.{GivesKnown, IsSafe, MayLeave}
-use Rattle.vdm_meaning.proofs.Parts.{IsAt, at-inside, at-later, may-fail, safe-value, slots-on}
+use Rattle.vdm_meaning.proofs.Parts.{IsAt, at-inside, at-later, may-fail, safe-finish, safe-value, slots-on}
 use Rattle.vdm_meaning.proofs.Fitting.{safe-slots_typed}
 use Rattle.vdm_meaning.proofs.Asking.{safe-New}
 
@@ -56,7 +56,7 @@ module _ (spec : SpecTree) (first : List Entry) (here : Here) (class : Name) (pl
   safe-initial_value now rest slots (gave Unset inner) is_at known also fills = may-fail spec Undefined place is_at.may
   safe-initial_value now rest slots (next inner) is_at known also fills = may-fail spec Undefined place is_at.may
   safe-initial_value now rest slots (returned slot inner) is_at known also fills = may-fail spec Undefined place is_at.may
-  safe-initial_value now rest slots (exited v from inner) is_at known also fills = (is_at.within, (is_at.may.sane, also))
+  safe-initial_value now rest slots (exited v from inner) is_at known also fills = safe-finish spec (Some 3) (exited v from locals) is_at (also.0, is_at.may.known)
 
   safe-initial_then : (now : List Entry) (stands : Name) (initial : Option ExprTree) (rest : List Slot → Code) (slots : List Slot) → IsAt first now here locals → AreKnownSlots now slots → Fills now rest → IsSafe spec first now (initial_then stands initial place locals rest slots)
   safe-initial_then now stands None rest slots is_at known fills = fills now (slots ++ Unset ∷ []) (within-self now) is_at (slot-more now slots Unset known tt)

@@ -17,9 +17,9 @@ use Rattle.plans.specs.Plans.{become, finish, part}
 use Rattle.vdm_legal.proofs.Known.{IsKnown, IsKnownSlot, each_wider, known-on, slot-on, there-on}
 use Rattle.vdm_legal.proofs.Sanity.{IsSane, IsWithin, within-self, within-then}
 use Rattle.node_meaning.specs.Faults.{fault_at}
-use Rattle.node_meaning.specs.Tasks.{Code, Flow, cut_to, evaluated, exited, expr_in, gave, next, returned, value, with_value}
+use Rattle.node_meaning.specs.Tasks.{Code, Flow, Task, cut_to, evaluated, exited, expr_in, gave, next, returned, value, with_value}
 use Rattle.node_meaning.specs.Envs.{Locals, Nest, Here, Held, at, inside_class}
-use Rattle.vdm_meaning.proofs.Rules.{AreKnown, GivesKnown, HasObject, HoldsKnown, IsSafe, IsSafeWith, MayFail, MayRun}
+use Rattle.vdm_meaning.proofs.Rules.{AreKnown, GivesKnown, HasObject, HoldsKnown, IsSafe, IsSafeWith, MayBegin, MayFail, MayRun}
 
 -- ---- what is known behind some entries is known behind later ones
 
@@ -157,17 +157,21 @@ module _ (spec : SpecTree) (n : Option ℕ) where
         (λ v after known others. goes later v after w (at-behind is_at w leaves.0 after others) known),
   )
 
-module _ (spec : SpecTree) where
-  -- an expression in the place of the node
-  pub safe-become : (first now : List Entry) (here : Here) (locals : Locals) (tree : ExprTree) → IsAt first now here locals → IsSafe spec first now (become (expr_in (at here locals) tree))
-  safe-become first now here locals tree is_at = (is_at.may, λ later flow w leaves. (within-then first now later is_at.within w, leaves))
+  -- a task in the place of the node
+  pub safe-become_task : {first now : List Entry} {here : Here} {locals : Locals} (task : Task) → IsAt first now here locals → MayBegin now task → IsSafeWith spec n first now (become task)
+  safe-become_task {first = first} {now = now} task is_at begins = (begins, λ later flow w leaves. (within-then first now later is_at.within w, leaves))
 
-  safe-cut : {first now : List Entry} {here : Here} {locals : Locals} (count : ℕ) (flow : Flow) → IsAt first now here locals → GivesKnown now flow → IsSafe spec first now (cut_to count flow)
+  pub safe-cut : {first now : List Entry} {here : Here} {locals : Locals} (count : ℕ) (flow : Flow) → IsAt first now here locals → GivesKnown now flow → IsSafeWith spec n first now (cut_to count flow)
   safe-cut {now = now} count (gave slot after) is_at known = (is_at.within, (is_at.may.sane, (known.0, cut-known now count after known.1)))
   safe-cut {now = now} count (next after) is_at known = (is_at.within, (is_at.may.sane, cut-known now count after known))
   safe-cut {now = now} count (returned slot after) is_at known = (is_at.within, (is_at.may.sane, (known.0, cut-known now count after known.1)))
-  safe-cut count (exited v from after) is_at known = (is_at.within, (is_at.may.sane, known))
+  safe-cut {now = now} count (exited v from after) is_at known = (is_at.within, (is_at.may.sane, (known.0, cut-known now count after known.1)))
+
+module _ (spec : SpecTree) where
+  -- an expression in the place of the node
+  pub safe-become : (first now : List Entry) (here : Here) (locals : Locals) (tree : ExprTree) → IsAt first now here locals → IsSafe spec first now (become (expr_in (at here locals) tree))
+  safe-become first now here locals tree is_at = safe-become_task spec (Some 3) (expr_in (at here locals) tree) is_at is_at.may
 
   -- ... without the locals that were bound for it
   pub safe-within : (first now : List Entry) (here : Here) (count : ℕ) (body : ExprTree) (locals : Locals) → IsAt first now here locals → IsSafe spec first now (part (expr_in (at here locals) body) (cut_to count))
-  safe-within first now here count body locals is_at = (is_at.may, λ later flow w leaves. safe-cut count flow (at-later is_at w leaves.0) leaves.1)
+  safe-within first now here count body locals is_at = (is_at.may, λ later flow w leaves. safe-cut spec (Some 3) count flow (at-later is_at w leaves.0) leaves.1)

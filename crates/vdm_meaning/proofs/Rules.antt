@@ -12,11 +12,11 @@ use Rattle.run_journal.specs.declared.question.Question.TheVariants.{Fail}
 use Rattle.run_journal.specs.Parts.{object_part}
 use Rattle.plans.specs.Steps.{Rules, Safe}
 use Rattle.vdm_legal.specs.Ready.{IsReady}
-use Rattle.vdm_legal.proofs.Known.{IsKnownSlot}
+use Rattle.vdm_legal.proofs.Known.{IsKnown, IsKnownSlot}
 use Rattle.vdm_legal.proofs.Sanity.{IsSane, IsWithin}
 use Rattle.vdm_legal.proofs.Taken.{IsEntryFor}
 use Rattle.node_meaning.specs.Faults.{Fault}
-use Rattle.node_meaning.specs.Tasks.{Code, Flow, Query, Task, call_in, exited, expr_in, gave, needed, next, noted, returned, stmt_in}
+use Rattle.node_meaning.specs.Tasks.{Code, Flow, Query, Task, call_in, exited, expr_in, gave, needed, next, noted, returned, round_in, stmt_in}
 use Rattle.node_meaning.specs.Envs.{Locals, Here, Held}
 
 -- ---- questions and faults
@@ -71,15 +71,16 @@ abbrev pub MayBegin : List Entry → Task → Type 0
 MayBegin entries (expr_in env tree) = MayRun entries env.here env.locals
 MayBegin entries (call_in env tree) = MayRun entries env.here env.locals
 MayBegin entries (stmt_in env tree) = MayRun entries env.here env.locals
+MayBegin entries (round_in env round) = MayRun entries env.here env.locals
 
 -- ---- results
 
--- what is left is known; so far nothing exits
+-- what is left is known
 abbrev pub GivesKnown : List Entry → Flow → Type 0
 GivesKnown entries (gave slot locals) = IsKnownSlot entries slot × AreKnown entries locals
 GivesKnown entries (next locals) = AreKnown entries locals
 GivesKnown entries (returned slot locals) = IsKnownSlot entries slot × AreKnown entries locals
-GivesKnown entries (exited v from locals) = ⊥
+GivesKnown entries (exited v from locals) = IsKnown entries v × AreKnown entries locals
 
 abbrev pub MayLeave : List Entry → Flow → Type 0
 MayLeave entries flow = IsSane entries × GivesKnown entries flow

@@ -1,14 +1,16 @@
 use Rattle.std.proofs.Common.{length, ap, ◌∙◌, arith}
 use Rattle.spec_table.specs.Tables.{table_spec}
 use Rattle.step_data.specs.declared.making.Making.{Making}
-use Rattle.call_steps.proofs.Fitting.{asks_next, asked_last}
+use Rattle.call_steps.proofs.Fitting.{asks_next, asked_last, at_these}
 use Rattle.call_steps.proofs.testing.test_slots.Goals as goal
 
 pub returns-in-Asks-clause-same : goal.returns-in-Asks-clause-same
 returns-in-Asks-clause-same c =
-    asks_next (table_spec c.args.table.now) c.args.making.value c.deref-in-loop-index.result.now c.loop-index.index c.deref-in-loop-index.ensures
+    let spec = table_spec c.args.table.now in
+    at_these spec c.next_tried.new.locals.items c.fit.result _ _ c.fit.ensures.same
+    (asks_next spec c.args.making.value c.deref-in-loop-index.result.now c.loop-index.index c.deref-in-loop-index.ensures
     c.loop-index.locals.items c.next_tried.new.locals.items c.in_ok-next_tried.field-0 c.in-Asks.here c.in-Asks.tree c.in-Asks.inner _ c.in-Asks.is
-    c.in_ok-next_tried.ensures c.loop-index.invariant.same
+    c.in_ok-next_tried.ensures c.loop-index.invariant.same)
 
 pub returns-clause-same : goal.returns-clause-same
 returns-clause-same c =

@@ -1,4 +1,5 @@
-use Rattle.std.proofs.Common.{ap}
+use Rattle.std.proofs.Common.{ap, ◌∙◌}
+use Rattle.std.proofs.lemmas.Result.{IfOk-weaker}
 use Rattle.expr_tree.specs.View.{view_of}
 use Rattle.plans.specs.Plans.{bind, part}
 use Rattle.node_meaning.specs.Envs.{at}
@@ -9,6 +10,7 @@ use Rattle.eval_data.specs.Steps.{fields_left, frame_then}
 use Rattle.eval_data.proofs.step.Step.field_test.Goals as goal
 
 pub returns : goal.returns
-returns c = λ setting locals.
-    ap (λ (p : Filling). bind (part (expr_in (at (here_of c.args.here) locals) (view_of c.args.tree.now)) (frame_then setting c.args.inner)) (with_value c.args.place (λ v. fields_left setting.spec p c.args.place)))
-    c.in_ok-new.ensures.ok
+returns c = IfOk-weaker c.test.result _ _ (λ s is setting locals.
+    is setting locals ∙ ap (λ (p : Filling). bind (part (expr_in (at (here_of c.args.here) locals) (view_of c.args.tree.now)) (frame_then setting c.args.inner)) (with_value c.args.place (λ v. fields_left setting.spec p c.args.place)))
+    c.in_ok-new.ensures.ok)
+    c.test.ensures

@@ -1,5 +1,5 @@
 use Rattle.spec_table.specs.Tables.{table_spec}
-use Rattle.step_data.specs.Parts.{expression_in}
+use Rattle.step_data.specs.Parts.{task_of}
 use Rattle.stmt_exec.proofs.Resting.{begun, spent_becomes}
 use Rattle.stmt_exec.proofs.Running.{begun-low}
 use Rattle.stmt_exec.proofs.machine.Machine.begin.Goals as goal
@@ -7,12 +7,12 @@ use Rattle.stmt_exec.proofs.machine.Machine.begin.Goals as goal
 pub returns-in-Some-clause-same : goal.returns-in-Some-clause-same
 returns-in-Some-clause-same c =
     begun (table_spec c.args.self.now.table.now) c.args.self.now.levels.items c.planned.new.nest c.planned.new.locals.items c.args.self.now.fuel c.in-Some.left
-    (expression_in c.args.here c.args.tree c.args.self.now.locals.items) c.planned.result c.in-Some.ensures c.planned.ensures.same
+    (task_of c.args.task c.args.self.now.locals.items) c.planned.result c.in-Some.ensures c.planned.ensures.same
 
 pub returns-in-None-clause-same : goal.returns-in-None-clause-same
 returns-in-None-clause-same c = λ answers.
     spent_becomes (table_spec c.args.self.now.table.now) c.args.self.now.levels.items c.args.self.now.fuel
-    (expression_in c.args.here c.args.tree c.args.self.now.locals.items) _ answers c.in-None.ensures
+    (task_of c.args.task c.args.self.now.locals.items) _ answers c.in-None.ensures
     (c.unentered.ensures.same (table_spec c.args.self.now.table.now) c.args.self.now.locals.items)
 
 pub returns-in-Some-clause-low : goal.returns-in-Some-clause-low

@@ -62,12 +62,28 @@ actions-preserved-in_ok-action-in-Become c = record {
   rest = c.in_ok-action-in-Become.ensures.rest ∙ c.actions.invariant.rest;
 }
 
+pub actions-preserved-in_ok-action-in-Round : goal.actions-preserved-in_ok-action-in-Round
+actions-preserved-in_ok-action-in-Round c = record {
+  same = λ answers. c.in_ok-action-in-Round.ensures.same answers ∙ ap (λ a. stands_with c.actions.self a answers) (sym c.in-Round.is) ∙ c.actions.invariant.same answers;
+  low = no_higher c.actions.self.levels.items c.actions.self.fuel _ 1 (load c.args.self.now.levels.items c.args.self.now.fuel (height c.args.action)) c.actions.action (ap height c.in-Round.is) c.in_ok-action-in-Round.ensures.low c.actions.invariant.low;
+  table = c.in_ok-action-in-Round.ensures.table ∙ c.actions.invariant.table;
+  rest = c.in_ok-action-in-Round.ensures.rest ∙ c.actions.invariant.rest;
+}
+
 pub actions-preserved-in_ok-action-in-Test : goal.actions-preserved-in_ok-action-in-Test
 actions-preserved-in_ok-action-in-Test c = record {
   same = λ answers. c.in_ok-action-in-Test.ensures.same answers ∙ ap (λ a. stands_with c.actions.self a answers) (sym c.in-Test.is) ∙ c.actions.invariant.same answers;
   low = no_higher c.actions.self.levels.items c.actions.self.fuel _ 1 (load c.args.self.now.levels.items c.args.self.now.fuel (height c.args.action)) c.actions.action (ap height c.in-Test.is) c.in_ok-action-in-Test.ensures.low c.actions.invariant.low;
   table = c.in_ok-action-in-Test.ensures.table ∙ c.actions.invariant.table;
   rest = c.in_ok-action-in-Test.ensures.rest ∙ c.actions.invariant.rest;
+}
+
+pub actions-preserved-in_ok-action-in-Fit : goal.actions-preserved-in_ok-action-in-Fit
+actions-preserved-in_ok-action-in-Fit c = record {
+  same = λ answers. c.in_ok-action-in-Fit.ensures.same answers ∙ ap (λ a. stands_with c.actions.self a answers) (sym c.in-Fit.is) ∙ c.actions.invariant.same answers;
+  low = no_higher c.actions.self.levels.items c.actions.self.fuel _ 1 (load c.args.self.now.levels.items c.args.self.now.fuel (height c.args.action)) c.actions.action (ap height c.in-Fit.is) c.in_ok-action-in-Fit.ensures.low c.actions.invariant.low;
+  table = c.in_ok-action-in-Fit.ensures.table ∙ c.actions.invariant.table;
+  rest = c.in_ok-action-in-Fit.ensures.rest ∙ c.actions.invariant.rest;
 }
 
 pub actions-preserved : goal.actions-preserved

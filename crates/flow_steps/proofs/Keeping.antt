@@ -1,0 +1,23 @@
+-- What came of the body of `always` is kept without its locals.
+use Rattle.std.proofs.Common.{◌≡◌, [], refl, ap}
+use Rattle.abstract_syntax.specs.Statements.{StmtTree}
+use Rattle.plans.specs.Plans.{finish, part}
+use Rattle.node_meaning.specs.Envs.{Here, Locals, at}
+use Rattle.node_meaning.specs.Statements.{at_last, unless_replaced, with_locals}
+use Rattle.node_meaning.specs.Tasks.{Flow as MeantFlow, gave, next, returned, exited, stmt_in}
+use Rattle.eval_data.specs.declared.flow.Flow.{Flow}
+use Rattle.eval_data.specs.declared.flow.Flow.TheVariants.{Gave, Next, Returned, Exited}
+use Rattle.eval_data.specs.Parts.{flow_of}
+
+alike : (a b : MeantFlow) → ((locals : Locals) → with_locals locals a ≡ with_locals locals b) → (flow : MeantFlow) → unless_replaced a flow ≡ unless_replaced b flow
+alike a b h (gave slot locals) = refl
+alike a b h (next locals) = ap finish (h locals)
+alike a b h (returned slot locals) = refl
+alike a b h (exited v from locals) = refl
+
+pub kept : (here : Here) (last : StmtTree) (flow : Flow) (locals : Locals)
+    → part (stmt_in (at here locals) last) (unless_replaced (flow_of flow [])) ≡ at_last here last (flow_of flow locals)
+kept here last (Gave slot) locals = λ i. part (stmt_in (at here locals) last) (λ flow. alike (gave slot []) (gave slot locals) (λ l. refl) flow i)
+kept here last Next locals = λ i. part (stmt_in (at here locals) last) (λ flow. alike (next []) (next locals) (λ l. refl) flow i)
+kept here last (Returned slot) locals = λ i. part (stmt_in (at here locals) last) (λ flow. alike (returned slot []) (returned slot locals) (λ l. refl) flow i)
+kept here last (Exited v from) locals = λ i. part (stmt_in (at here locals) last) (λ flow. alike (exited v from []) (exited v from locals) (λ l. refl) flow i)

@@ -1,0 +1,10 @@
+//! What loops do.
+#![tactic(auto)]
+
+mod numbers;
+mod rounds;
+mod whiles;
+
+pub use numbers::{by_number, first_number, last_number};
+pub use rounds::round_done;
+pub use whiles::again;

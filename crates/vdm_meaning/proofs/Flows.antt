@@ -1,0 +1,58 @@
+-- What is done with what came of a statement keeps the rules of journals.
+use Rattle.std.proofs.Common.{List, Option, ℕ}
+use Rattle.vdm_values.specs.declared.slot.Slot.TheVariants.{Unset, Held}
+use Rattle.abstract_syntax.specs.Classes.{SpecTree}
+use Rattle.abstract_syntax.specs.Statements.{StmtTree}
+use Rattle.run_journal.specs.declared.entry.Entry.{Entry}
+use Rattle.vdm_legal.proofs.Known.{known-on, slot-on}
+use Rattle.vdm_legal.proofs.Sanity.{IsWithin, within-self}
+use Rattle.node_meaning.specs.Envs.{Here, Locals}
+use Rattle.node_meaning.specs.Tasks.{Code, Flow, exited, gave, next, returned}
+use Rattle.node_meaning.specs.Statements.{at_last, called, locals_of, unless_ended, unless_replaced, with_locals}
+use Rattle.vdm_meaning.proofs.Rules.{AreKnown, GivesKnown, IsSafeWith}
+use Rattle.vdm_meaning.proofs.Parts.{Goes, IsAt, at-among, at-later, safe-finish}
+
+-- ---- what came of the body, behind the last statement
+
+locals-known : (now : List Entry) (flow : Flow) → GivesKnown now flow → AreKnown now (locals_of flow)
+locals-known now (gave slot locals) known = known.1
+locals-known now (next locals) known = known
+locals-known now (returned slot locals) known = known.1
+locals-known now (exited v from locals) known = known.1
+
+-- it is known behind later entries too, with any known locals
+kept-known : (now later : List Entry) (w : IsWithin now later) (flow : Flow) (locals : Locals) → GivesKnown now flow → AreKnown later locals → GivesKnown later (with_locals locals flow)
+kept-known now later w (gave slot before) locals known others = (slot-on now w.more later w.behind slot known.0, others)
+kept-known now later w (next before) locals known others = others
+kept-known now later w (returned slot before) locals known others = (slot-on now w.more later w.behind slot known.0, others)
+kept-known now later w (exited v from before) locals known others = (known-on now w.more later w.behind v known.0, others)
+
+-- ---- plans
+
+module _ (spec : SpecTree) (n : Option ℕ) (first : List Entry) (here : Here) where
+  pub safe-called : {now : List Entry} {locals : Locals} (flow : Flow) → IsAt first now here locals → GivesKnown now flow → IsSafeWith spec n first now (called flow)
+  safe-called (gave (Held v) after) is_at known = safe-finish spec n (returned (Held v) after) is_at known
+  safe-called (gave Unset after) is_at known = safe-finish spec n (next after) is_at known.1
+  safe-called (next after) is_at known = safe-finish spec n (next after) is_at known
+  safe-called (returned slot after) is_at known = safe-finish spec n (returned slot after) is_at known
+  safe-called (exited v from after) is_at known = safe-finish spec n (exited v from after) is_at known
+
+  pub safe-unless_ended : (now : List Entry) (locals : Locals) (others : Locals → Code) (flow : Flow) → IsAt first now here locals → GivesKnown now flow → Goes spec n first here now others → IsSafeWith spec n first now (unless_ended others flow)
+  safe-unless_ended now locals others (gave slot after) is_at known goes = safe-finish spec n (gave slot after) is_at known
+  safe-unless_ended now locals others (next after) is_at known goes = goes now after (within-self now) (at-among is_at after known)
+  safe-unless_ended now locals others (returned slot after) is_at known goes = safe-finish spec n (returned slot after) is_at known
+  safe-unless_ended now locals others (exited v from after) is_at known goes = safe-finish spec n (exited v from after) is_at known
+
+  safe-unless_replaced : {now : List Entry} {locals : Locals} (before flow : Flow) → IsAt first now here locals → GivesKnown now flow → ((after : Locals) → AreKnown now after → GivesKnown now (with_locals after before)) → IsSafeWith spec n first now (unless_replaced before flow)
+  safe-unless_replaced before (gave slot after) is_at known kept = safe-finish spec n (gave slot after) is_at known
+  safe-unless_replaced before (next after) is_at known kept = safe-finish spec n (with_locals after before) is_at (kept after known)
+  safe-unless_replaced before (returned slot after) is_at known kept = safe-finish spec n (returned slot after) is_at known
+  safe-unless_replaced before (exited v from after) is_at known kept = safe-finish spec n (exited v from after) is_at known
+
+  pub safe-at_last : (now : List Entry) (locals : Locals) (last : StmtTree) (flow : Flow) → IsAt first now here locals → GivesKnown now flow → IsSafeWith spec n first now (at_last here last flow)
+  safe-at_last now locals last flow is_at known = (
+    (at-among is_at (locals_of flow) (locals-known now flow known)).may,
+    λ later end w leaves.
+        safe-unless_replaced flow end (at-later is_at w leaves.0) leaves.1
+        (λ after others. kept-known now later w flow after known others),
+  )
