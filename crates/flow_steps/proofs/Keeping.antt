@@ -1,5 +1,5 @@
 -- What came of the body of `always` is kept without its locals.
-use Rattle.std.proofs.Common.{◌≡◌, [], refl, ap}
+use Rattle.std.proofs.Common.{◌≡◌, ℕ, [], take, refl, ap}
 use Rattle.abstract_syntax.specs.Statements.{StmtTree}
 use Rattle.plans.specs.Plans.{finish, part}
 use Rattle.node_meaning.specs.Envs.{Here, Locals, at}
@@ -15,9 +15,12 @@ alike a b h (next locals) = ap finish (h locals)
 alike a b h (returned slot locals) = refl
 alike a b h (exited v from locals) = refl
 
-pub kept : (here : Here) (last : StmtTree) (flow : Flow) (locals : Locals)
-    → part (stmt_in (at here locals) last) (unless_replaced (flow_of flow [])) ≡ at_last here last (flow_of flow locals)
-kept here last (Gave slot) locals = λ i. part (stmt_in (at here locals) last) (λ flow. alike (gave slot []) (gave slot locals) (λ l. refl) flow i)
-kept here last Next locals = λ i. part (stmt_in (at here locals) last) (λ flow. alike (next []) (next locals) (λ l. refl) flow i)
-kept here last (Returned slot) locals = λ i. part (stmt_in (at here locals) last) (λ flow. alike (returned slot []) (returned slot locals) (λ l. refl) flow i)
-kept here last (Exited v from) locals = λ i. part (stmt_in (at here locals) last) (λ flow. alike (exited v from []) (exited v from locals) (λ l. refl) flow i)
+pub kept : (here : Here) (count : ℕ) (last : StmtTree) (flow : Flow) (locals : Locals)
+    → part (stmt_in (at here (take count locals)) last) (unless_replaced (flow_of flow [])) ≡ at_last here count last (flow_of flow locals)
+kept here count last (Gave slot) locals =
+    λ i. part (stmt_in (at here (take count locals)) last) (λ flow. alike (gave slot []) (gave slot locals) (λ l. refl) flow i)
+kept here count last Next locals = λ i. part (stmt_in (at here (take count locals)) last) (λ flow. alike (next []) (next locals) (λ l. refl) flow i)
+kept here count last (Returned slot) locals =
+    λ i. part (stmt_in (at here (take count locals)) last) (λ flow. alike (returned slot []) (returned slot locals) (λ l. refl) flow i)
+kept here count last (Exited v from) locals =
+    λ i. part (stmt_in (at here (take count locals)) last) (λ flow. alike (exited v from []) (exited v from locals) (λ l. refl) flow i)

@@ -11,7 +11,7 @@ ghost use Rattle.step_data.specs.Actions.{action_code, height};
 
 use eval_data::{Flow, Here};
 use step_data::{Action, Task, Waiting};
-use vdm_kinds::{Place, RunFault};
+use vdm_kinds::{Name, Place, RunFault};
 use vdm_tree::Stmt;
 use vdm_values::Slot;
 
@@ -29,11 +29,18 @@ pub fn exit_with<'t>(place: Place, flow: Flow) -> Action<'t>
     }
 }
 
-/// The last statement of `always`, whatever came of its body.
-pub fn at_last<'t>(here: Here<'t>, last: &'t Box<Stmt>, flow: Flow) -> Action<'t>
-    ensures same { (spec : SpecTree) (locals : Locals) → action_code spec locals result ≡ at_last_plan (here_of here.entry) (boxed_stmt last.entry.now) (flow_of flow locals) }
+/// The last statement of `always`, whatever came of its body: the locals behind the first so many go.
+pub fn at_last<'t>(
+    locals: &mut Vec<(Name, Slot)>,
+    here: Here<'t>,
+    last: &'t Box<Stmt>,
+    count: usize,
+    flow: Flow,
+) -> Action<'t>
+    ensures same { (spec : SpecTree) → action_code spec locals.new.items result ≡ at_last_plan (here_of here.entry) count (boxed_stmt last.entry.now) (flow_of flow locals.old.items) }
     ensures falls { height result ≤ 1 }
 {
+    locals.truncate(count);
     Action::Part(Task::Stmt(here, last), Waiting::Replaced(flow))
 }
 

@@ -27,6 +27,6 @@ pub fn node_plan<'t>(
     match task {
         Task::Expr(here, tree) => Ok(Action::of(expression(alloc, table, locals, here, tree)?)),
         Task::Call(here, tree) => Ok(Action::of(bare_call(alloc, table, locals, here, tree)?)),
-        Task::Stmt(here, tree) => Ok(statement(here, tree)),
+        Task::Stmt(here, tree) => Ok(statement(locals, here, tree)),
     }
 }

@@ -64,7 +64,7 @@ pub fn then_of<'t>(
         Waiting::By(here, rest, first, last) => {
             by_number(alloc, locals, here, rest, first, last, flow)
         }
-        Waiting::AtLast(here, last) => Ok(at_last(here, last, flow)),
+        Waiting::AtLast(here, last, count) => Ok(at_last(locals, here, last, count, flow)),
         Waiting::Replaced(before) => Ok(unless_replaced(before, flow)),
         Waiting::End => Ok(main_ended(flow)),
     }

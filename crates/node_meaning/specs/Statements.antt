@@ -205,9 +205,9 @@ unless_replaced before (next locals) = finish (with_locals locals before)
 unless_replaced before (returned slot locals) = finish (returned slot locals)
 unless_replaced before (exited v from locals) = finish (exited v from locals)
 
--- the last statement, whatever came of the body
-abbrev pub at_last : Here → StmtTree → Flow → Code
-at_last here last flow = part (stmt_in (at here (locals_of flow)) last) (unless_replaced flow)
+-- the last statement, whatever came of the body: the locals behind the first so many go, which an exit may have left
+abbrev pub at_last : Here → ℕ → StmtTree → Flow → Code
+at_last here count last flow = part (stmt_in (at here (take count (locals_of flow))) last) (unless_replaced flow)
 
 -- ---- all statements
 
@@ -223,7 +223,8 @@ stmt_plan spec here locals (if_then condition statement elseifs otherwise place)
 stmt_plan spec here locals (while_do condition body place) = while_round here condition body place locals
 stmt_plan spec here locals (for_numbers name name_place first last by body place) =
     evaluated here locals first place (on_number place (counts_on here name last by body place))
-stmt_plan spec here locals (always_after last body place) = part (stmt_in (at here locals) body) (at_last here last)
+stmt_plan spec here locals (always_after last body place) =
+    part (stmt_in (at here locals) body) (at_last here (length locals) last)
 stmt_plan spec here locals (in_parallel statements place) = sequence here statements locals
 stmt_plan spec here locals (skips place) = finish (next locals)
 stmt_plan spec here locals (errs place) = fault Undefined place

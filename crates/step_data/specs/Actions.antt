@@ -115,7 +115,7 @@ waiting_then spec (Again here condition body place) =
 waiting_then spec (First here l) = with_value l.place (on_number l.place (behind_first here l))
 waiting_then spec (Last here l first) = with_value l.place (on_number l.place (behind_last here l first))
 waiting_then spec (By here l first last) = with_value l.place (on_number l.place (behind_by here l first last))
-waiting_then spec (AtLast here statement) = at_last (here_of here) (boxed_stmt statement.now)
+waiting_then spec (AtLast here statement count) = at_last (here_of here) count (boxed_stmt statement.now)
 waiting_then spec (Replaced flow) = unless_replaced (flow_of flow [])
 waiting_then spec End = main_ended
 

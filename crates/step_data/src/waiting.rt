@@ -48,8 +48,8 @@ pub enum Waiting<'t> {
     Last(Here<'t>, ForLoop<'t>, i128),
     /// It is the size of the steps of a loop, behind its first and its last number.
     By(Here<'t>, ForLoop<'t>, i128, i128),
-    /// Behind the body of `always`: this statement comes last.
-    AtLast(Here<'t>, &'t Box<Stmt>),
+    /// Behind the body of `always`: this statement comes last, among so many locals.
+    AtLast(Here<'t>, &'t Box<Stmt>, usize),
     /// Behind the last statement of `always`, whose body left this.
     Replaced(Flow),
     /// Behind the whole expression, which main ends with.

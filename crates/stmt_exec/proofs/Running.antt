@@ -69,7 +69,7 @@ weight-le (Again here condition body place) = omega arith
 weight-le (First here l) = omega arith
 weight-le (Last here l first) = omega arith
 weight-le (By here l first last) = omega arith
-weight-le (AtLast here statement) = omega arith
+weight-le (AtLast here statement count) = omega arith
 weight-le (Replaced flow) = omega arith
 weight-le End = omega arith
 

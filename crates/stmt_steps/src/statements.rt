@@ -14,13 +14,13 @@ ghost use Rattle.step_data.specs.Actions.{action_code, height};
 use eval_data::{Flow, Here};
 use flow_steps::sequence;
 use step_data::{Action, ForLoop, Round, Task, Waiting};
-use vdm_kinds::{Place, RunFault};
+use vdm_kinds::{Name, Place, RunFault};
 use vdm_tree::{Expr, Stmt, StmtBranch};
 use vdm_values::{Node, Slot, Value};
 
 /// What a statement does. What no accepted text has is undefined so far.
-pub fn statement<'t>(here: Here<'t>, tree: &'t Stmt) -> Action<'t>
-    ensures same { (spec : SpecTree) (locals : Locals) → action_code spec locals result ≡ stmt_plan spec (here_of here.entry) locals (stmt_view tree.now) }
+pub fn statement<'t>(locals: &Vec<(Name, Slot)>, here: Here<'t>, tree: &'t Stmt) -> Action<'t>
+    ensures same { (spec : SpecTree) → action_code spec locals.now.items result ≡ stmt_plan spec (here_of here.entry) locals.now.items (stmt_view tree.now) }
     ensures falls { height result ≤ 1 }
 {
     match tree {
@@ -57,7 +57,8 @@ pub fn statement<'t>(here: Here<'t>, tree: &'t Stmt) -> Action<'t>
             Action::Part(Task::Expr(here, first), Waiting::First(here, rest))
         }
         Stmt::Always(last, body, _) => {
-            Action::Part(Task::Stmt(here, body), Waiting::AtLast(here, last))
+            let waiting = Waiting::AtLast(here, last, locals.len());
+            Action::Part(Task::Stmt(here, body), waiting)
         }
         Stmt::Parallel(statements, _) => sequence(here, statements.as_slice()),
         Stmt::Skip(_) => Action::Finish(Flow::Next),

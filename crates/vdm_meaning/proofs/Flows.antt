@@ -10,7 +10,7 @@ use Rattle.node_meaning.specs.Envs.{Here, Locals}
 use Rattle.node_meaning.specs.Tasks.{Code, Flow, exited, gave, next, returned}
 use Rattle.node_meaning.specs.Statements.{at_last, called, locals_of, unless_ended, unless_replaced, with_locals}
 use Rattle.vdm_meaning.proofs.Rules.{AreKnown, GivesKnown, IsSafeWith}
-use Rattle.vdm_meaning.proofs.Parts.{Goes, IsAt, at-among, at-later, safe-finish}
+use Rattle.vdm_meaning.proofs.Parts.{Goes, IsAt, at-among, at-cut, at-later, safe-finish}
 
 -- ---- what came of the body, behind the last statement
 
@@ -49,9 +49,9 @@ module _ (spec : SpecTree) (n : Option ℕ) (first : List Entry) (here : Here) w
   safe-unless_replaced before (returned slot after) is_at known kept = safe-finish spec n (returned slot after) is_at known
   safe-unless_replaced before (exited v from after) is_at known kept = safe-finish spec n (exited v from after) is_at known
 
-  pub safe-at_last : (now : List Entry) (locals : Locals) (last : StmtTree) (flow : Flow) → IsAt first now here locals → GivesKnown now flow → IsSafeWith spec n first now (at_last here last flow)
-  safe-at_last now locals last flow is_at known = (
-    (at-among is_at (locals_of flow) (locals-known now flow known)).may,
+  pub safe-at_last : (now : List Entry) (locals : Locals) (count : ℕ) (last : StmtTree) (flow : Flow) → IsAt first now here locals → GivesKnown now flow → IsSafeWith spec n first now (at_last here count last flow)
+  safe-at_last now locals count last flow is_at known = (
+    (at-cut count (at-among is_at (locals_of flow) (locals-known now flow known))).may,
     λ later end w leaves.
         safe-unless_replaced flow end (at-later is_at w leaves.0) leaves.1
         (λ after others. kept-known now later w flow after known others),

@@ -1,5 +1,5 @@
 -- Statements keep the rules of journals.
-use Rattle.std.proofs.Common.{◌≢◌, ◌∷◌, [], Bool, List, None, Option, Some, false, refl, true, ℕ}
+use Rattle.std.proofs.Common.{◌≢◌, ◌∷◌, [], Bool, List, None, Option, Some, false, length, refl, true, ℕ}
 use Rattle.vdm_kinds.specs.declared.member.VarRef.{VarRef}
 use Rattle.vdm_kinds.specs.declared.place.Place.{Place}
 use Rattle.vdm_kinds.specs.declared.run_fault.RunFault.TheVariants.{Undefined}
@@ -120,7 +120,7 @@ module _ (spec : SpecTree) (first : List Entry) (here : Here) where
       safe-counts_on spec first here place name body later last by z after at_later)
   safe-statement now locals (always_after last body place) is_at = (
     is_at.may,
-    λ later flow w leaves. safe-at_last spec (Some 3) first here later locals last flow (at-later is_at w leaves.0) leaves.1,
+    λ later flow w leaves. safe-at_last spec (Some 3) first here later locals (length locals) last flow (at-later is_at w leaves.0) leaves.1,
   )
   safe-statement now locals (in_parallel statements place) is_at = safe-sequence statements now locals is_at
   safe-statement now locals (skips place) is_at = safe-finish spec (Some 3) (next locals) is_at is_at.may.known

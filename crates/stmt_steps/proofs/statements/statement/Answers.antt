@@ -11,7 +11,8 @@ use Rattle.stmt_steps.proofs.Views.{view-If}
 use Rattle.stmt_steps.proofs.statements.statement.Goals as goal
 
 pub returns-in-If-clause-same : goal.returns-in-If-clause-same
-returns-in-If-clause-same c = λ spec locals.
+returns-in-If-clause-same c = λ spec.
+    let locals = c.args.locals.now.items in
     let here = here_of c.args.here in
     let place = c.in-If.place in
     c.if_then.ensures.same spec locals
