@@ -1,9 +1,9 @@
 """The forms of the cases that examples/check runs.
 
 A case says on which words and which standard input the program runs, what it must print, and with which status it must
-end. It is a file, a row of a table or a folder; the examples of a page are tables too. What a second program, the
-driver, must answer is a row of its own kind. A name is there once: where two cases have one name, or a case that of a
-table, the second is no case.
+end. It is a file, a row of a table, a folder or an example of a page. What a second program, the driver, must answer is
+a row of its own kind. A name is there once: where two cases have one name, or a case that of a table, the second is no
+case.
 
 **A file, `cases/NAME.vdmpp`.** The text above its first line that begins with `--!` is standard input, to the byte.
 Then comes the footer, which the program never sees, and what stands below the footer is what standard output must get,
@@ -58,8 +58,10 @@ has a line feed. Each file of the folder may be missing:
     status    the exit status that is wanted; no file: 0
     setup     lines as in the footer of a file, from `stdin blanks` on, without the mark
 
-**An example of a page, `docs/REFUSALS.md`.** Each block of code of the page is a table, whose first line says what its
-requests are. The rows are named REFUSALS:LINE.
+**An example of a page, `docs/REFUSALS.md` or `docs/FAULTS.md`.** Each block of code of the page is calls, a model or a
+table. Of calls each begins in a line as `$ ./vdm run '1 + 1' --log < examples/empty.vdmpp`, with words as in the footer
+of a file, and the lines below it are the answer. A model begins with `class`; the calls below it, up to the next model,
+read it as `m.vdmpp`. The first line of a table says what its requests are. The rows are named REFUSALS:LINE.
 
 **A row of the driver, `rows/TOPIC.rows`.** The driver reads requests, a line each, and prints one line for each.
 Requests, comments, empty lines and texts that are defined are as in a table, and an answer is one line. The row's name
@@ -76,12 +78,16 @@ from typing import NamedTuple
 
 from driver import BadRequest, words_for
 
-COUNTER = Path(__file__).resolve().parent / "counter.vdmpp"
+TOP = Path(__file__).resolve().parent.parent
+COUNTER = TOP / "examples/counter.vdmpp"
+PAGES = ("docs/REFUSALS.md", "docs/FAULTS.md")
 FILES = {"args", "word", "stdin", "stdout", "status", "setup"}
 STATUSES = {"result:": 0, "checked:": 0, "refused:": 1, "usage:": 2, "fault:": 3, "read": 6}
 NO_LINE_FEED = "no last line feed"
 INDENT = "    "
 FENCE = "```"
+CALL = "$ ./"
+MODEL = "m.vdmpp"
 # Above its first line that begins with the mark, the lines that do, and the rest.
 PARTS = re.compile(r"((?:(?!--!).*\n)*)((?:--!.*(?:\n|\Z))+)((?s:.*))")
 # Controls but the line feed, the no-break space, two further ends of lines, and the byte-order mark.
@@ -195,9 +201,16 @@ class TableRow(Case):
 class PageRow(TableRow):
     @classmethod
     def read(cls, path):
-        lines = lines_with_numbers(path)
-        blocks = (takewhile(is_no_fence, lines) for it in lines if not is_no_fence(it))
-        return [row for it in blocks for row in cls.rows_of(path, entries_of(it))]
+        model, rows = None, []
+        for lines in blocks_of(path):
+            first = lines[0][1] if lines else ""
+            if first.startswith("class"):
+                model = "".join(f"{line}\n" for _, line in lines)
+            elif first.startswith("$"):
+                rows += rows_among(calls_of(lines), partial(cls, path, partial(by_call, model)))
+            else:
+                rows += cls.rows_of(path, entries_of(lines))
+        return rows
 
 
 class DriverRow:
@@ -252,9 +265,9 @@ def told_at(line):
 
 
 def all_cases(top):
-    """Returns the cases of the three folders below this one and of the page; what is no case is a Broken."""
+    """Returns the cases of the three folders below this one and of the pages; what is no case is a Broken."""
     paths = [it for folder in ("cases", "tables", "rows") for it in sorted((top / folder).glob("[!.]*"))]
-    return once_each([case for path in [*paths, top.parent / "docs/REFUSALS.md"] for case in cases_of(path)])
+    return once_each([case for path in [*paths, *(top.parent / it for it in PAGES)] for case in cases_of(path)])
 
 
 def cases_of(path):
@@ -289,6 +302,23 @@ def lines_with_numbers(path):
 
 def is_no_fence(numbered):
     return not numbered[1].startswith(FENCE)
+
+
+def blocks_of(path):
+    """Returns the blocks of code of a page, each as its lines with their numbers."""
+    lines = lines_with_numbers(path)
+    return [list(takewhile(is_no_fence, lines)) for it in lines if not is_no_fence(it)]
+
+
+def calls_of(lines):
+    """Returns the calls of a block that begins with one, with the answers."""
+    entries = []
+    for number, line in lines:
+        if line.startswith("$"):
+            entries.append(Entry(number, "", line, []))
+        else:
+            entries[-1].answer.append(line)
+    return entries
 
 
 def rows_among(entries, row):
@@ -370,6 +400,17 @@ def by_words_over(text):
     if not bar:
         raise BadCase("words and their text have ' %| ' between them")
     return by_text(words_of(words), over)
+
+
+def by_call(model, text):
+    words, arrow, name = text.removeprefix(CALL).rpartition(" < ")
+    if not (text.startswith(CALL) and arrow):
+        raise BadCase(f"a call of a page is '{CALL}vdm WORDS < FILE'")
+    if name != MODEL:
+        return words_of(words), (TOP / name).read_bytes()
+    if model is None:
+        raise BadCase(f"no model stands above, so there is no {MODEL}")
+    return words_of(words), model.encode()
 
 
 def by_bytes(text):

@@ -163,8 +163,9 @@ fn in_field_values(fields: &[FieldValue]) -> Option<Place>
     None
 }
 
+/// Where the first form stands that is not built among definitions of a `let`.
 #[cycle(unbuilt)]
-fn in_definitions(definitions: &[Defined]) -> Option<Place>
+pub fn in_definitions(definitions: &[Defined]) -> Option<Place>
     ensures { result ≡ unbuilt_in_defined (defined_trees (map defined_view definitions.now)) }
 {
     for defined in definitions {
@@ -202,8 +203,9 @@ fn in_cases(cases: &[Case]) -> Option<Place>
     None
 }
 
+/// Where the first form of a bind stands that is not built.
 #[cycle(unbuilt)]
-fn in_bind(bind: &Bind) -> Option<Place>
+pub fn in_bind(bind: &Bind) -> Option<Place>
     ensures { result ≡ unbuilt_in_bind (bind_view bind.now) }
 {
     in_patterns(&bind.patterns).or(unbuilt_in_expr(&bind.set))
@@ -241,8 +243,9 @@ pub fn unbuilt_in_pattern(pattern: &Pattern) -> Option<Place>
     }
 }
 
+/// Where the first form stands that is not built among patterns.
 #[cycle(unbuilt)]
-fn in_patterns(patterns: &[Pattern]) -> Option<Place>
+pub fn in_patterns(patterns: &[Pattern]) -> Option<Place>
     ensures { result ≡ unbuilt_in_patterns (pattern_trees (pattern_views patterns.now)) }
 {
     for pattern in patterns {

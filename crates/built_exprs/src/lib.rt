@@ -3,4 +3,6 @@
 
 mod exprs;
 
-pub use exprs::{unbuilt_in_call, unbuilt_in_expr, unbuilt_in_pattern};
+pub use exprs::{
+    in_bind, in_definitions, in_patterns, unbuilt_in_call, unbuilt_in_expr, unbuilt_in_pattern,
+};

@@ -6,5 +6,6 @@ mod definitions;
 mod faults;
 mod members;
 mod statements;
+mod targets;
 
 pub use faults::unbuilt_fault;

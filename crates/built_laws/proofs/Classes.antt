@@ -35,6 +35,7 @@ use Rattle.built_laws.proofs.Exprs.{expr_meant}
 use Rattle.built_laws.proofs.Lists.{each-append, each-weaker}
 use Rattle.built_laws.proofs.Nothing.{first-none, behind-none, told-none}
 use Rattle.built_laws.proofs.PartsBuilt.{given_built}
+use Rattle.built_laws.proofs.StmtParts.{given_part_built}
 use Rattle.built_laws.proofs.Stmts.{operation_meant, initial_meant}
 
 -- ---- functions
@@ -48,10 +49,6 @@ body_built : (body : Body ExprTree) → unbuilt_if_written body ≡ None → Eac
 body_built (written body) h = (h, tt)
 body_built not_yet_specified h = tt
 body_built subclass_responsibility h = tt
-
-given_part_built : (part : Option ExprTree) → unbuilt_if_given part ≡ None → Each IsBuiltExpr (given_part part)
-given_part_built None h = tt
-given_part_built (Some part) h = (h, tt)
 
 function_built : (f : FunctionTree) → unbuilt_in_function f ≡ None → Each IsBuiltExpr (function_parts f)
 function_built f h =

@@ -2,6 +2,7 @@ pub mod Nothing
 pub mod Lists
 pub mod PartsBuilt
 pub mod Exprs
+pub mod StmtParts
 pub mod Stmts
 pub mod Classes
 pub mod OfIo

@@ -50,7 +50,7 @@ no_value : (spec : SpecTree) (class name : Name) → is_same_name class io ≡ t
 no_value spec class name h =
     ap (option_and_then (λ (k : ℕ). one_variable (found_value spec k name))) (io_number spec class h) ∙ one_of_kind spec name Value
 
-no_variable : (spec : SpecTree) (class name : Name) → is_same_name class io ≡ true → variable_in spec (Some class) name ≡ None
+pub no_variable : (spec : SpecTree) (class name : Name) → is_same_name class io ≡ true → variable_in spec (Some class) name ≡ None
 no_variable spec class name h =
     ap (option_and_then (λ (k : ℕ). one_variable (found_variable spec k name))) (io_number spec class h) ∙ one_of_kind spec name Variable
 

@@ -112,7 +112,7 @@ mutual
   given_built (record_pattern t fields place) h = each_built fields h
   given_built (concatenation_pattern elements place) h = each_built elements h
 
-  each_built : (ps : PatternTrees) → unbuilt_in_patterns ps ≡ None → Each IsBuiltExpr (given_in_each ps)
+  pub each_built : (ps : PatternTrees) → unbuilt_in_patterns ps ≡ None → Each IsBuiltExpr (given_in_each ps)
   each_built no_patterns h = tt
   each_built (one_pattern p ps) h =
       each-append IsBuiltExpr (given_in p) (given_in_each ps) (given_built p (first-none _ _ h)) (each_built ps (behind-none _ _ h))
@@ -143,7 +143,7 @@ field_values_built : (fs : FieldValueTrees) → unbuilt_in_field_values fs ≡ N
 field_values_built no_field_values h = tt
 field_values_built (one_field_value name name_place value fs) h = (first-none _ _ h, field_values_built fs (behind-none _ _ h))
 
-definitions_built : (ds : DefinedTrees) → unbuilt_in_defined ds ≡ None → Each IsBuiltExpr (definitions_in ds)
+pub definitions_built : (ds : DefinedTrees) → unbuilt_in_defined ds ≡ None → Each IsBuiltExpr (definitions_in ds)
 definitions_built no_defined h = tt
 definitions_built (one_defined pattern declared value ds) h =
     let behind = behind-none _ _ h in
@@ -162,7 +162,7 @@ cases_built (one_case patterns value cs) h =
     each-append IsBuiltExpr (given_in_each patterns) (value ∷ cases_in cs) (each_built patterns (first-none _ _ h))
     (first-none _ _ behind, cases_built cs (behind-none _ _ behind))
 
-bind_built : (b : BindTree) → unbuilt_in_bind b ≡ None → Each IsBuiltExpr (bind_parts b)
+pub bind_built : (b : BindTree) → unbuilt_in_bind b ≡ None → Each IsBuiltExpr (bind_parts b)
 bind_built (bind_in patterns set) h =
     each-append IsBuiltExpr (given_in_each patterns) (set ∷ []) (each_built patterns (first-none _ _ h)) (behind-none _ _ h, tt)
 
@@ -259,7 +259,7 @@ parts_built tree h = told-none _ h
 
 -- ---- the node itself
 
-is_there : (b : Bool) (place : Place) → unless b place ≡ None → b ≡ true
+pub is_there : (b : Bool) (place : Place) → unless b place ≡ None → b ≡ true
 is_there true place h = refl
 is_there false place h = told-none place h
 

@@ -1,9 +1,8 @@
 -- What does nothing is undefined.
-use Rattle.std.proofs.Common.{◌≡◌, Bool, true, false, not, [], ◌∷◌, refl, true≢false}
+use Rattle.std.proofs.Common.{◌≡◌, ℕ, Bool, true, false, not, Option, Some, None, refl, true≢false, ap, ◌∙◌}
 use Rattle.vdm_kinds.specs.NameList.{io}
 use Rattle.vdm_kinds.specs.declared.place.Place.{Place}
 use Rattle.vdm_kinds.specs.declared.run_fault.RunFault.TheVariants.{TypeFault, Undefined}
-use Rattle.abstract_syntax.specs.Values.{ValueTree}
 use Rattle.abstract_syntax.specs.Expressions.{
   ExprTree,
   literal,
@@ -47,35 +46,17 @@ use Rattle.abstract_syntax.specs.Expressions.{
   one_expr,
   expr_place,
 }
-use Rattle.abstract_syntax.specs.Statements.{
-  TargetTree,
-  variable,
-  variable_of_class,
-  StmtTree,
-  assign,
-  call,
-  block,
-  returns,
-  exits,
-  if_then,
-  while_do,
-  for_numbers,
-  always_after,
-  in_parallel,
-  skips,
-  errs,
-  stmt_place,
-}
+use Rattle.abstract_syntax.specs.Statements.{TargetTree, variable, variable_of_class, assign}
 use Rattle.abstract_syntax.specs.Classes.{SpecTree, is_same_name}
 use Rattle.node_meaning.specs.Envs.{Locals, Here}
-use Rattle.node_meaning.specs.Expressions.{expr_plan}
+use Rattle.node_meaning.specs.Expressions.{expr_plan, bare_call}
 use Rattle.node_meaning.specs.Needs.{Setting}
-use Rattle.node_meaning.specs.Statements.{assigned, stmt_plan}
-use Rattle.node_meaning.specs.TaskPlans.{bare_call}
-use Rattle.node_meaning.specs.Tasks.{fault}
+use Rattle.stmt_meaning.specs.Statements.{stmt_plan}
+use Rattle.stmt_meaning.specs.Targets.{Goal, variable_goal, goal_of, target_steps, assigned}
+use Rattle.node_meaning.specs.Tasks.{Declared, fault}
 use Rattle.built_laws.specs.Meant.{has_plan}
-use Rattle.built_laws.proofs.OfIo.{io_undefined}
-use Rattle.built_laws.specs.MeantStmts.{does_something, is_whole_variable, is_application}
+use Rattle.built_laws.specs.MeantStmts.{is_writable, is_application}
+use Rattle.built_laws.proofs.OfIo.{io_undefined, no_variable}
 
 not_so : {A : Type 0} → true ≡ false → A
 not_so h = absurd (true≢false h)
@@ -126,27 +107,20 @@ no_plan setting here locals (exists_one bind condition place) h = not_so h
 no_plan setting here locals (iota_of bind condition place) h = not_so h
 no_plan setting here locals tree h = refl
 
-pub nothing_done : (spec : SpecTree) (here : Here) (locals : Locals) (statement : StmtTree) → does_something statement ≡ false
-    → stmt_plan spec here locals statement ≡ fault Undefined (stmt_place statement)
-nothing_done spec here locals (assign target value place) h = not_so h
-nothing_done spec here locals (call application place) h = not_so h
-nothing_done spec here locals (block dcls statements place) h = not_so h
-nothing_done spec here locals (returns value place) h = not_so h
-nothing_done spec here locals (exits value place) h = not_so h
-nothing_done spec here locals (if_then condition body elseifs otherwise place) h = not_so h
-nothing_done spec here locals (while_do condition body place) h = not_so h
-nothing_done spec here locals (for_numbers name name_place first last by body place) h = not_so h
-nothing_done spec here locals (always_after last body place) h = not_so h
-nothing_done spec here locals (in_parallel statements place) h = not_so h
-nothing_done spec here locals (skips place) h = not_so h
-nothing_done spec here locals (errs place) h = not_so h
-nothing_done spec here locals statement h = refl
+no_goal : (spec : SpecTree) (me : Option ℕ) → variable_goal spec me None ≡ None
+no_goal spec None = refl
+no_goal spec (Some me) = refl
 
-pub not_written : (spec : SpecTree) (here : Here) (target : TargetTree) (place : Place) (v : ValueTree) (locals : Locals)
-    → is_whole_variable target ≡ false → assigned spec here target place v locals ≡ fault Undefined place
-not_written spec here (variable name [] name_place) place v locals h = not_so h
-not_written spec here (variable name (step ∷ steps) name_place) place v locals h = refl
-not_written spec here (variable_of_class class name name_place steps class_place) place v locals h = refl
+pub not_written : (spec : SpecTree) (here : Here) (declared : Declared) (target : TargetTree) → is_writable target ≡ false
+    → goal_of spec here declared target ≡ None
+not_written spec here declared (variable name steps place) h = not_so h
+not_written spec here declared (variable_of_class class name name_place steps place) h =
+    ap (variable_goal spec here.me) (no_variable spec class name (not_false (is_same_name class io) h)) ∙ no_goal spec here.me
+
+pub nothing_done : (spec : SpecTree) (here : Here) (declared : Declared) (locals : Locals) (target : TargetTree) (value : ExprTree) (place : Place)
+    → is_writable target ≡ false → stmt_plan spec here declared locals (assign target value place) ≡ fault Undefined place
+nothing_done spec here declared locals target value place h =
+    ap (λ (goal : Option Goal). assigned spec here place goal (target_steps target) value locals) (not_written spec here declared target h)
 
 pub not_called : (setting : Setting) (here : Here) (locals : Locals) (tree : ExprTree) → is_application tree ≡ false
     → bare_call setting here locals tree ≡ fault TypeFault (expr_place tree)

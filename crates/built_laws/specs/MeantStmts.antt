@@ -1,72 +1,80 @@
 -- Statements and bodies with a meaning: each statement of them has a plan of its own, and so has each node of their expressions.
-use Rattle.std.specs.Prelude.{◌≡◌, ℕ, zero, suc, Bool, true, false, List, [], ◌∷◌, ◌++◌}
+use Rattle.std.specs.Prelude.{◌≡◌, ℕ, zero, suc, Bool, true, false, not, ◌&&◌, List, [], ◌∷◌, ◌++◌}
+use Rattle.vdm_kinds.specs.NameList.{io}
 use Rattle.abstract_syntax.specs.Expressions.{ExprTree, apply}
 use Rattle.abstract_syntax.specs.Statements.{
   TargetTree,
   variable,
+  variable_of_class,
+  AssignmentTree,
+  LocalTree,
+  DclTree,
   StmtTree,
   StmtTrees,
   MaybeStmt,
   StmtBranches,
-  assign,
-  call,
+  StmtCases,
+  HandlerTrees,
   block,
+  assign,
+  assign_together,
+  call,
   returns,
   exits,
+  let_then,
+  let_be_then,
+  def_then,
   if_then,
+  cases_then,
   while_do,
   for_numbers,
+  for_set,
+  for_sequence,
+  trap_exit,
+  trap_exits,
   always_after,
   in_parallel,
-  skips,
-  errs,
+  start_thread,
+  start_threads,
   no_stmts,
   one_stmt,
   no_stmt,
   given_stmt,
   no_stmt_branches,
   one_stmt_branch,
+  no_stmt_cases,
+  one_stmt_case,
+  no_handlers,
+  one_handler,
 }
-use Rattle.abstract_syntax.specs.Classes.{Body, written, not_yet_specified, subclass_responsibility}
+use Rattle.abstract_syntax.specs.Classes.{Body, written, not_yet_specified, subclass_responsibility, is_same_name}
+use Rattle.pattern_meaning.specs.Brackets.{given_in, given_in_each}
+use Rattle.stmt_meaning.specs.Targets.{target_steps, indices}
 use Rattle.built_laws.specs.Meant.{Each, IsMeant}
-use Rattle.built_laws.specs.Parts.{given_part}
+use Rattle.built_laws.specs.Parts.{given_part, definitions_in, bind_parts}
 
--- the kinds that do something: any other statement is undefined at its place
-abbrev pub does_something : StmtTree → Bool
-does_something (assign target value place) = true
-does_something (call application place) = true
-does_something (block locals statements place) = true
-does_something (returns value place) = true
-does_something (exits value place) = true
-does_something (if_then condition body elseifs otherwise place) = true
-does_something (while_do condition body place) = true
-does_something (for_numbers name name_place first last by body place) = true
-does_something (always_after last body place) = true
-does_something (in_parallel statements place) = true
-does_something (skips place) = true
-does_something (errs place) = true
-does_something _ = false
+-- what may be written to: `IO` has no variable
+abbrev pub is_writable : TargetTree → Bool
+is_writable (variable name steps place) = true
+is_writable (variable_of_class class name name_place steps place) = not (is_same_name class io)
 
--- what is written to: a variable as a whole
-abbrev pub is_whole_variable : TargetTree → Bool
-is_whole_variable (variable name [] place) = true
-is_whole_variable _ = false
+abbrev pub are_writable : List AssignmentTree → Bool
+are_writable [] = true
+are_writable (a ∷ assignments) = is_writable a.target && are_writable assignments
 
 -- what is called: an application
 abbrev pub is_application : ExprTree → Bool
 is_application (apply head arguments place) = true
 is_application _ = false
 
--- whether the statement has a meaning: one that does something, and of an assignment to a whole variable, of the call of an application,
--- of a block without locals
+-- whether the statement has a meaning by itself: each kind has one
 abbrev pub is_plain : StmtTree → Bool
-is_plain (assign target value place) = is_whole_variable target
+is_plain (assign target value place) = is_writable target
+is_plain (assign_together assignments place) = are_writable assignments
 is_plain (call application place) = is_application application
-is_plain (block [] statements place) = true
-is_plain (block (dcl ∷ dcls) statements place) = false
-is_plain statement = does_something statement
+is_plain statement = true
 
--- ---- what stands right in a statement
+-- ---- its statements
 
 abbrev pub statements_in : StmtTrees → List StmtTree
 statements_in no_stmts = []
@@ -80,29 +88,79 @@ abbrev pub branch_statements : StmtBranches → List StmtTree
 branch_statements no_stmt_branches = []
 branch_statements (one_stmt_branch condition statement branches) = statement ∷ branch_statements branches
 
-abbrev pub branch_conditions : StmtBranches → List ExprTree
-branch_conditions no_stmt_branches = []
-branch_conditions (one_stmt_branch condition statement branches) = condition ∷ branch_conditions branches
+abbrev pub case_statements : StmtCases → List StmtTree
+case_statements no_stmt_cases = []
+case_statements (one_stmt_case ps statement cases) = statement ∷ case_statements cases
 
--- its statements
+abbrev pub handler_statements : HandlerTrees → List StmtTree
+handler_statements no_handlers = []
+handler_statements (one_handler pattern statement handlers) = statement ∷ handler_statements handlers
+
+-- those that stand right in a statement
 abbrev pub inner : StmtTree → List StmtTree
 inner (block locals statements place) = statements_in statements
+inner (let_then definitions body place) = body ∷ []
+inner (let_be_then bind condition body place) = body ∷ []
+inner (def_then pattern value body place) = body ∷ []
 inner (if_then condition body elseifs otherwise place) = body ∷ (branch_statements elseifs ++ maybe_statement otherwise)
+inner (cases_then subject cases others place) = case_statements cases ++ maybe_statement others
 inner (while_do condition body place) = body ∷ []
 inner (for_numbers name name_place first last by body place) = body ∷ []
+inner (for_set pattern set body place) = body ∷ []
+inner (for_sequence pattern items body place) = body ∷ []
+inner (trap_exit pattern handler body place) = handler ∷ body ∷ []
+inner (trap_exits handlers body place) = handler_statements handlers ++ (body ∷ [])
 inner (always_after last body place) = last ∷ body ∷ []
 inner (in_parallel statements place) = statements_in statements
 inner _ = []
 
--- its expressions
+-- ---- its expressions
+
+abbrev pub assigned_in : List AssignmentTree → List ExprTree
+assigned_in [] = []
+assigned_in (a ∷ assignments) = (indices (target_steps a.target) ++ (a.value ∷ [])) ++ assigned_in assignments
+
+abbrev pub initial_values : List LocalTree → List ExprTree
+initial_values [] = []
+initial_values (local ∷ others) = given_part local.initial ++ initial_values others
+
+abbrev pub local_values : List DclTree → List ExprTree
+local_values [] = []
+local_values (dcl ∷ dcls) = initial_values dcl.locals ++ local_values dcls
+
+abbrev pub branch_conditions : StmtBranches → List ExprTree
+branch_conditions no_stmt_branches = []
+branch_conditions (one_stmt_branch condition statement branches) = condition ∷ branch_conditions branches
+
+abbrev pub case_givens : StmtCases → List ExprTree
+case_givens no_stmt_cases = []
+case_givens (one_stmt_case patterns statement cases) = given_in_each patterns ++ case_givens cases
+
+abbrev pub handler_givens : HandlerTrees → List ExprTree
+handler_givens no_handlers = []
+handler_givens (one_handler pattern statement handlers) = given_in pattern ++ handler_givens handlers
+
+-- those that stand right in a statement, and those in brackets in its patterns
 abbrev pub evaluated_in : StmtTree → List ExprTree
-evaluated_in (assign target value place) = value ∷ []
+evaluated_in (block locals statements place) = local_values locals
+evaluated_in (assign target value place) = indices (target_steps target) ++ (value ∷ [])
+evaluated_in (assign_together assignments place) = assigned_in assignments
 evaluated_in (call application place) = application ∷ []
 evaluated_in (returns value place) = given_part value
 evaluated_in (exits value place) = given_part value
+evaluated_in (let_then definitions body place) = definitions_in definitions
+evaluated_in (let_be_then bind condition body place) = bind_parts bind ++ given_part condition
+evaluated_in (def_then pattern value body place) = given_in pattern ++ (value ∷ [])
 evaluated_in (if_then condition body elseifs otherwise place) = condition ∷ branch_conditions elseifs
+evaluated_in (cases_then subject cases others place) = subject ∷ case_givens cases
 evaluated_in (while_do condition body place) = condition ∷ []
 evaluated_in (for_numbers name name_place first last by body place) = first ∷ last ∷ given_part by
+evaluated_in (for_set pattern set body place) = given_in pattern ++ (set ∷ [])
+evaluated_in (for_sequence pattern items body place) = given_in pattern ++ (items ∷ [])
+evaluated_in (trap_exit pattern handler body place) = given_in pattern
+evaluated_in (trap_exits handlers body place) = handler_givens handlers
+evaluated_in (start_thread object place) = object ∷ []
+evaluated_in (start_threads objects place) = objects ∷ []
 evaluated_in _ = []
 
 -- ---- whole statements
@@ -111,8 +169,7 @@ evaluated_in _ = []
 abbrev pub IsMeantStmt : ℕ → StmtTree → Type 0
 IsMeantStmt zero statement = Unit {0}
 IsMeantStmt (suc levels) statement =
-    (does_something statement ≡ true) × (is_plain statement ≡ true)
-    × Each (IsMeant levels) (evaluated_in statement) × Each (IsMeantStmt levels) (inner statement)
+    (is_plain statement ≡ true) × Each (IsMeant levels) (evaluated_in statement) × Each (IsMeantStmt levels) (inner statement)
 
 -- a body that is not written is undefined where it is called, and nothing of it is evaluated
 abbrev pub IsMeantBody : ℕ → Body StmtTree → Type 0

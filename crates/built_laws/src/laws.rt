@@ -8,20 +8,20 @@ ghost use Rattle.vdm_kinds.specs.declared.run_fault.RunFault.TheVariants.{TypeFa
 ghost use Rattle.abstract_syntax.specs.Values.{ValueTree};
 ghost use Rattle.abstract_syntax.specs.Types.{TypeTree};
 ghost use Rattle.abstract_syntax.specs.Expressions.{ExprTree, expr_place};
-ghost use Rattle.abstract_syntax.specs.Statements.{TargetTree, StmtTree, stmt_place};
+ghost use Rattle.abstract_syntax.specs.Statements.{TargetTree, assign};
 ghost use Rattle.abstract_syntax.specs.Classes.{TypeDefTree, VariableTree, FunctionTree, OperationTree, SpecTree};
 ghost use Rattle.node_meaning.specs.Envs.{Locals, Here};
 ghost use Rattle.node_meaning.specs.Fitting.{fitting_in};
-ghost use Rattle.node_meaning.specs.Expressions.{expr_plan};
+ghost use Rattle.node_meaning.specs.Expressions.{expr_plan, bare_call};
 ghost use Rattle.node_meaning.specs.Needs.{Setting};
-ghost use Rattle.node_meaning.specs.Statements.{assigned, stmt_plan};
-ghost use Rattle.node_meaning.specs.TaskPlans.{bare_call};
-ghost use Rattle.node_meaning.specs.Tasks.{fault};
+ghost use Rattle.stmt_meaning.specs.Statements.{stmt_plan};
+ghost use Rattle.stmt_meaning.specs.Targets.{goal_of};
+ghost use Rattle.node_meaning.specs.Tasks.{Declared, fault};
 ghost use Rattle.text_phases.specs.Built.{unbuilt_in_expr, unbuilt_in_invariant, unbuilt_in_function, unbuilt_in_operation, unbuilt_in_variable, unbuilt_in_spec};
 ghost use Rattle.built_laws.specs.Asked.{AsksInvariants};
 ghost use Rattle.built_laws.specs.Meant.{has_plan, IsMeant};
 ghost use Rattle.built_laws.specs.MeantClasses.{IsMeantFunction, IsMeantType, IsMeantSpec};
-ghost use Rattle.built_laws.specs.MeantStmts.{does_something, is_whole_variable, is_application, IsMeantBody};
+ghost use Rattle.built_laws.specs.MeantStmts.{is_writable, is_application, IsMeantBody};
 
 /// Each node of a built expression has a meaning, however deep one looks, and none asks an object to print.
 pub fn built_expressions_have_meaning()
@@ -63,10 +63,11 @@ pub fn invariants_that_are_asked_for_are_there()
 pub fn others_are_undefined()
     ensures expressions { (setting : Setting) (here : Here) (locals : Locals) (tree : ExprTree) → has_plan tree ≡ false
         → expr_plan setting here locals tree ≡ fault Undefined (expr_place tree) }
-    ensures statements { (spec : SpecTree) (here : Here) (locals : Locals) (statement : StmtTree) → does_something statement ≡ false
-        → stmt_plan spec here locals statement ≡ fault Undefined (stmt_place statement) }
-    ensures targets { (spec : SpecTree) (here : Here) (target : TargetTree) (place : Place) (v : ValueTree) (locals : Locals)
-        → is_whole_variable target ≡ false → assigned spec here target place v locals ≡ fault Undefined place }
+    ensures targets { (spec : SpecTree) (here : Here) (declared : Declared) (target : TargetTree) → is_writable target ≡ false
+        → goal_of spec here declared target ≡ None }
+    ensures assignments { (spec : SpecTree) (here : Here) (declared : Declared) (locals : Locals) (target : TargetTree) (value : ExprTree)
+        (place : Place) → is_writable target ≡ false
+        → stmt_plan spec here declared locals (assign target value place) ≡ fault Undefined place }
     ensures calls { (setting : Setting) (here : Here) (locals : Locals) (tree : ExprTree) → is_application tree ≡ false
         → bare_call setting here locals tree ≡ fault TypeFault (expr_place tree) }
 {}

@@ -14,7 +14,7 @@ use Rattle.plans.specs.Plans.{part, bind}
 use Rattle.node_meaning.specs.Envs.{Locals, at, initialising}
 use Rattle.node_meaning.specs.Fitting.{slot_typed, slots_typed}
 use Rattle.node_meaning.specs.Names.{variable_definition}
-use Rattle.node_meaning.specs.Objects.{initial_of, initial_value, initialise, object_asked}
+use Rattle.stmt_meaning.specs.Objects.{initial_of, initial_value, initialise, object_asked}
 use Rattle.node_meaning.specs.Tasks.{Code, expr_in, with_value}
 use Rattle.call_steps.specs.Trials.{tried_code}
 use Rattle.call_steps.specs.declared.testing.Tried.{Tried}
@@ -25,7 +25,8 @@ use Rattle.eval_data.specs.declared.here.Here.{Here}
 use Rattle.eval_data.specs.Steps.{frame_then}
 use Rattle.step_data.specs.declared.making.Making.{Making}
 use Rattle.step_data.specs.declared.action.Action.{Action}
-use Rattle.step_data.specs.Actions.{action_code, of_thread, slots_left}
+use Rattle.step_data.specs.Actions.{action_code, slots_left}
+use Rattle.stmt_meaning.specs.Questions.{of_thread}
 use Rattle.step_data.specs.Parts.{expression_in}
 
 -- a variable with an initialiser, and those behind it

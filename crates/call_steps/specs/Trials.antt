@@ -5,7 +5,7 @@ use Rattle.plans.specs.Plans.{bind, part}
 use Rattle.node_meaning.specs.Envs.{Locals}
 use Rattle.node_meaning.specs.Tasks.{Code, fault, with_value}
 use Rattle.eval_data.specs.Steps.{frame_then}
-use Rattle.step_data.specs.Actions.{of_thread}
+use Rattle.stmt_meaning.specs.Questions.{of_thread}
 use Rattle.step_data.specs.Parts.{expression_in}
 use Rattle.call_steps.specs.declared.testing.Tried.{Tried}
 use Rattle.call_steps.specs.declared.testing.Tried.TheVariants.{Passes, Fails, Asks}

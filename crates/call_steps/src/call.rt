@@ -4,7 +4,7 @@ ghost use Rattle.std.specs.Prelude.{◌≡◌, ◌≤◌, IfOk, option_map};
 ghost use Rattle.std.specs.Borrow.{Bor};
 ghost use Rattle.abstract_syntax.specs.Classes.{SpecTree};
 ghost use Rattle.vdm_values.specs.declared.slot.Slot.TheVariants.{Unset, Held};
-ghost use Rattle.node_meaning.specs.Calls.{called as called_plan, activated as activated_plan, begun as begun_plan, ended as ended_plan, left_with as left_plan, finished_with as finished_plan};
+ghost use Rattle.stmt_meaning.specs.Calls.{called as called_plan, activated as activated_plan, begun as begun_plan, ended as ended_plan, left_with as left_plan, finished_with as finished_plan};
 ghost use Rattle.node_meaning.specs.Envs.{Locals, inside as inside_of};
 ghost use Rattle.node_meaning.specs.Tasks.{with_value};
 ghost use Rattle.plans.specs.Plans.{bind};
@@ -14,7 +14,8 @@ ghost use Rattle.spec_table.specs.Tables.{table_spec};
 ghost use Rattle.eval_data.specs.Parts.{here_of, flow_of};
 ghost use Rattle.fit_steps.specs.Tests.{tested_code};
 ghost use Rattle.step_data.specs.Parts.{call_operation};
-ghost use Rattle.step_data.specs.Actions.{action_code, of_thread, busy, height};
+ghost use Rattle.step_data.specs.Actions.{action_code, busy, height};
+ghost use Rattle.stmt_meaning.specs.Questions.{of_thread};
 
 use eval_data::{Flow, Here, Nest};
 use fit_steps::{Tested, fitted};
@@ -22,7 +23,7 @@ use run_journal::Answer;
 use spec_table::ClassTable;
 use std::alloc::Global;
 use std::mem;
-use step_data::{Action, Asking, Call, Task, Waiting};
+use step_data::{Action, Asking, Call, Pending, Task, Waiting};
 use vdm_kinds::{Name, OpRef, OutOfMemory, Place, RunFault};
 use vdm_tree::{Body, OpDef};
 use vdm_values::{Slot, Value};
@@ -76,7 +77,12 @@ fn begun<'t>(alloc: Global, locals: &mut Vec<(Name, Slot)>, call: Call<'t>) -> A
         Body::Written(body) => {
             let here = inside(call.me, call.own, call.op.class);
             let saved = mem::replace(locals, Vec::new(alloc));
-            Action::Part(Task::Stmt(here, body), Waiting::Body(call, saved))
+            Action::Part(
+                Task::Stmt(here, body),
+                Pending {
+                    waiting: Waiting::Body(call, saved),
+                },
+            )
         }
         _ => Action::Fail(RunFault::Undefined, call.place),
     }

@@ -2,7 +2,7 @@
 
 ghost use Rattle.std.specs.Prelude.{◌≡◌, ◌≤◌, IfOk};
 ghost use Rattle.node_meaning.specs.Envs.{Locals};
-ghost use Rattle.node_meaning.specs.Needs.{questions_of};
+ghost use Rattle.stmt_meaning.specs.Questions.{questions_of};
 ghost use Rattle.node_meaning.specs.Tasks.{calls};
 ghost use Rattle.spec_table.specs.Tables.{table_spec};
 ghost use Rattle.eval_data.specs.Parts.{need_of};

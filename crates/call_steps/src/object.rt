@@ -5,10 +5,10 @@ ghost use Rattle.std.specs.Borrow.{Bor};
 ghost use Rattle.std.specs.declared.alloc.Global.{Global};
 ghost use Rattle.abstract_syntax.specs.Classes.{SpecTree};
 ghost use Rattle.node_meaning.specs.Envs.{Locals, initialising as initialising_in};
-ghost use Rattle.node_meaning.specs.Needs.{questions_of};
+ghost use Rattle.stmt_meaning.specs.Questions.{questions_of};
 ghost use Rattle.expr_tree.specs.View.{boxed_view};
 ghost use Rattle.expr_tree.specs.declared.expr.Expr.{Expr as ExprOf};
-ghost use Rattle.node_meaning.specs.Objects.{initial_of as initial_in, created as created_plan, make_object as make_object_plan};
+ghost use Rattle.stmt_meaning.specs.Objects.{initial_of as initial_in, created as created_plan, make_object as make_object_plan};
 ghost use Rattle.node_meaning.specs.Tasks.{creates};
 ghost use Rattle.node_meaning.specs.Names.{variable_definition};
 ghost use Rattle.spec_table.specs.Tables.{table_spec};
@@ -21,7 +21,7 @@ use run_journal::Answer;
 use spec_table::ClassTable;
 use std::alloc::Global;
 use std::mem;
-use step_data::{Action, Making, Task, Waiting};
+use step_data::{Action, Making, Pending, Task, Waiting};
 use vdm_kinds::{Name, OutOfMemory, Place, RunFault, VarRef};
 use vdm_tree::Expr;
 use vdm_values::{Node, Slot, Value, ValueList};
@@ -90,7 +90,12 @@ fn initialise<'t>(
         if let Some(initial) = initial_of(table, *var) {
             *locals = Vec::new(alloc);
             let task = Task::Expr(initialising(var.class), initial);
-            return Ok(Action::Part(task, Waiting::Initial(Box::new(alloc, making)?)));
+            return Ok(Action::Part(
+                task,
+                Pending {
+                    waiting: Waiting::Initial(Box::new(alloc, making)?),
+                },
+            ));
         }
         making.slots.push(Slot::Unset)?;
     }

@@ -8,12 +8,13 @@ ghost use Rattle.vdm_tree.specs.ClassView.{variable_view};
 ghost use Rattle.node_meaning.specs.Envs.{Locals, no_nest};
 ghost use Rattle.node_meaning.specs.Fitting.{slot_typed, typed};
 ghost use Rattle.node_meaning.specs.Names.{variable_definition};
-ghost use Rattle.node_meaning.specs.Objects.{object_asked as object_plan};
+ghost use Rattle.stmt_meaning.specs.Objects.{object_asked as object_plan};
 ghost use Rattle.node_meaning.specs.Tasks.{Code, with_value};
 ghost use Rattle.plans.specs.Plans.{bind};
 ghost use Rattle.spec_table.specs.Tables.{table_spec};
 ghost use Rattle.fit_steps.specs.Tests.{tested_code};
-ghost use Rattle.step_data.specs.Actions.{action_code, busy, height, of_thread, slots_left};
+ghost use Rattle.step_data.specs.Actions.{action_code, busy, height, slots_left};
+ghost use Rattle.stmt_meaning.specs.Questions.{of_thread};
 ghost use Rattle.call_steps.specs.Trials.{tried_code};
 
 use eval_data::{Frame, Here, Nest};

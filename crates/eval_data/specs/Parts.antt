@@ -14,8 +14,8 @@ use Rattle.expr_tree.specs.declared.pattern.Pattern.{Pattern}
 use Rattle.vdm_tree.specs.ClassView.{function_view}
 use Rattle.node_meaning.specs.Functions.{Applying as MeantApplying}
 use Rattle.node_meaning.specs.Records.{field_exprs}
-use Rattle.node_meaning.specs.Calls.{Wanted as MeantWanted, a_value, no_value}
-use Rattle.node_meaning.specs.Choosing.{Chooser as MeantChooser, collects, for_each, for_some, for_one, the_one, takes_first, Search as MeantSearch}
+use Rattle.node_meaning.specs.Wanted.{Wanted as MeantWanted, a_value, no_value}
+use Rattle.node_meaning.specs.Choosing.{Chooser as MeantChooser, collects, for_each, for_some, for_one, the_one, takes_first, finds, Search as MeantSearch}
 use Rattle.node_meaning.specs.Envs.{Locals, Nest as MeantNest, Held as MeantHeld, Here as MeantHere}
 use Rattle.node_meaning.specs.Matching.{exprs_of}
 use Rattle.node_meaning.specs.Strict.{Strict as MeantStrict, one_operand, two_operands, a_set, a_sequence, a_tuple, a_map, a_token, a_subsequence, a_component, maplet_exprs}
@@ -24,7 +24,7 @@ use Rattle.eval_data.specs.declared.applying.Applying.{Applying}
 use Rattle.eval_data.specs.declared.asked_type.AskedType.{AskedType}
 use Rattle.eval_data.specs.declared.asked_type.AskedType.TheVariants.{Written, Named, Basic}
 use Rattle.eval_data.specs.declared.chooser.Chooser.{Chooser}
-use Rattle.eval_data.specs.declared.chooser.Chooser.TheVariants.{Collects, ForEach, ForSome, ForOne, TheOne, TakesFirst}
+use Rattle.eval_data.specs.declared.chooser.Chooser.TheVariants.{Collects, ForEach, ForSome, ForOne, TheOne, TakesFirst, Finds}
 use Rattle.eval_data.specs.declared.chooser.Elements.{Elements}
 use Rattle.eval_data.specs.declared.chooser.Elements.TheVariants.{One as OneElement, Two as TwoElements}
 use Rattle.eval_data.specs.declared.flow.Flow.{Flow}
@@ -119,6 +119,7 @@ chooser_of (ForSome condition) = for_some (boxed_view condition.now)
 chooser_of (ForOne condition) = for_one (boxed_view condition.now)
 chooser_of (TheOne condition) = the_one (boxed_view condition.now)
 chooser_of (TakesFirst condition body) = takes_first (maybe_view condition.now) (boxed_view body.now)
+chooser_of (Finds condition) = finds (maybe_view condition.now)
 
 abbrev pub patterns_at : List (Bor Pattern) → List PatternTree
 patterns_at = map (λ (p : Bor Pattern). pattern_view p.now)

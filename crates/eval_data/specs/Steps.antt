@@ -1,5 +1,5 @@
 -- What frames and steps mean: the plan of each.
-use Rattle.std.specs.Prelude.{ℕ, ◌+◌, List, [], ◌∷◌, map, drop, slice_get, Option, Some, None, Bool, true, false}
+use Rattle.std.specs.Prelude.{ℕ, ◌+◌, List, [], ◌∷◌, map, drop, slice_get, Option, Some, None, Bool}
 use Rattle.class_meaning.specs.Classes.{nowhere}
 use Rattle.vdm_kinds.specs.declared.place.Place.{Place}
 use Rattle.abstract_syntax.specs.Classes.{InvariantTree, SpecTree}
@@ -15,7 +15,7 @@ use Rattle.type_tree.specs.TypeView.{type_views}
 use Rattle.expr_tree.specs.TypeDefView.{field_view, invariant_view}
 use Rattle.vdm_tree.specs.ClassView.{function_view}
 use Rattle.vdm_kinds.specs.declared.run_fault.RunFault.TheVariants.{NoMatch}
-use Rattle.node_meaning.specs.Calls.{given}
+use Rattle.node_meaning.specs.Wanted.{given}
 use Rattle.node_meaning.specs.Choosing.{by_truth, next_choice, choose, with_elements, sets_of, behind_sets, search_with}
 use Rattle.node_meaning.specs.Envs.{Locals, Here as MeantHere, outside, at}
 use Rattle.node_meaning.specs.Fitting.{descends, typed_maybe, fit_then, if_fits, as_answer, by_holding, arguments_typed}

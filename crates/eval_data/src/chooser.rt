@@ -22,4 +22,6 @@ pub enum Chooser<'t> {
     TheOne(&'t Box<Expr>),
     /// `let be`: the condition, and the expression for the first choice that fulfils it.
     TakesFirst(&'t Option<Box<Expr>>, &'t Box<Expr>),
+    /// `let be` of a statement: the condition. The names of the first choice that fulfils it stay bound.
+    Finds(&'t Option<Box<Expr>>),
 }

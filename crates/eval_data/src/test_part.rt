@@ -1,18 +1,10 @@
 // A part of the test of a value.
 
 ghost use Rattle.std.specs.Prelude.{◌≡◌};
-ghost use Rattle.expr_tree.specs.View.{view_of};
-ghost use Rattle.plans.specs.Plans.{part};
-ghost use Rattle.node_meaning.specs.Envs.{Locals, at};
-ghost use Rattle.node_meaning.specs.Needs.{Setting};
-ghost use Rattle.node_meaning.specs.Tasks.{expr_in};
 ghost use Rattle.eval_data.specs.declared.frame.Frame.TheVariants.{Cut};
-ghost use Rattle.eval_data.specs.Parts.{here_of};
-ghost use Rattle.eval_data.specs.Steps.{code_of, frame_then};
 
 use crate::frame::Frame;
 use crate::here::Here;
-use crate::step::Step;
 use expr_tree::Expr;
 use std::mem;
 
@@ -51,18 +43,5 @@ impl<'t> TestPart<'t> {
         ensures left { self.new ≡ record self.old { inner = Cut 0 } }
     {
         mem::replace(&mut self.inner, Frame::Cut(0))
-    }
-
-    /// The part, and what is done with what comes of it.
-    pub fn into_part(self) -> Step<'t>
-        ensures { (setting : Setting) (locals : Locals) → code_of setting locals result ≡ part (expr_in (at (here_of self.entry.here) locals) (view_of self.entry.tree.now)) (frame_then setting self.entry.inner) }
-    {
-        let TestPart {
-            here,
-            tree,
-            inner,
-            outer: _outer,
-        } = self;
-        Step::Part(here, tree, inner)
     }
 }

@@ -2,10 +2,10 @@
 
 ghost use Rattle.std.specs.Prelude.{◌≡◌, IfOk};
 ghost use Rattle.node_meaning.specs.Envs.{Locals};
-ghost use Rattle.node_meaning.specs.Calls.{a_value};
+ghost use Rattle.node_meaning.specs.Wanted.{a_value};
 ghost use Rattle.node_meaning.specs.Expressions.{application, expr_plan};
 ghost use Rattle.node_meaning.specs.Needs.{Asker, Setting};
-ghost use Rattle.node_meaning.specs.TaskPlans.{bare_call as bare_call_plan};
+ghost use Rattle.node_meaning.specs.Expressions.{bare_call as bare_call_plan};
 ghost use Rattle.expr_tree.specs.View.{boxed_view, expr_trees, view_of, views_of};
 ghost use Rattle.expr_topics.specs.Topics.{topic_of};
 ghost use Rattle.spec_table.specs.Tables.{table_spec};

@@ -9,7 +9,7 @@ use Rattle.vdm_kinds.specs.declared.place.Place.{Place}
 use Rattle.node_meaning.specs.Envs.{Nest}
 use Rattle.node_meaning.specs.Faults.{Fault}
 use Rattle.node_meaning.specs.Tasks.{Task, Flow, Query, Code, placed, spent}
-use Rattle.node_meaning.specs.TaskPlans.{plan_of}
+use Rattle.stmt_meaning.specs.TaskPlans.{plan_of}
 use Rattle.eval_data.specs.declared.frame.Level.{Level}
 use Rattle.eval_data.specs.Parts.{nest_of}
 use Rattle.eval_data.specs.Steps.{frame_then, level_then}

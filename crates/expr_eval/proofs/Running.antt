@@ -10,7 +10,7 @@ use Rattle.plans.specs.Plans.{fail, part, become, bind}
 use Rattle.vdm_kinds.specs.declared.halt.OutOfMemory.{OutOfMemory}
 use Rattle.vdm_kinds.specs.declared.place.Place.{Place}
 use Rattle.node_meaning.specs.Envs.{Locals, Here, at}
-use Rattle.node_meaning.specs.TaskPlans.{plan_of}
+use Rattle.stmt_meaning.specs.TaskPlans.{plan_of}
 use Rattle.node_meaning.specs.Tasks.{expr_in, Code, placed, spent}
 use Rattle.eval_data.specs.declared.flow.Flow.{Flow}
 use Rattle.eval_data.specs.declared.frame.Frame.{Frame}

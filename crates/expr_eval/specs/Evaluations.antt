@@ -14,7 +14,7 @@ use Rattle.plans.specs.Plans.{Outcome, gives, faults, needs, onward, part, run, 
 use Rattle.node_meaning.specs.Envs.{Locals, Here, at, bound_locals}
 use Rattle.node_meaning.specs.Faults.{Fault}
 use Rattle.node_meaning.specs.Needs.{Setting, evaluator}
-use Rattle.node_meaning.specs.TaskPlans.{plan_of}
+use Rattle.stmt_meaning.specs.TaskPlans.{plan_of}
 use Rattle.node_meaning.specs.Tasks.{expr_in, Flow, gave, next, returned, exited, Query, Code, spent, placed, fault, value}
 use Rattle.eval_data.specs.declared.frame.Level.{Level}
 use Rattle.eval_data.specs.declared.nest.Nest.{Nest}

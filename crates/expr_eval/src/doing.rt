@@ -6,7 +6,7 @@ ghost use Rattle.spec_table.specs.Tables.{table_spec};
 ghost use Rattle.plans.specs.Plans.{fail};
 ghost use Rattle.node_meaning.specs.Envs.{Locals, at};
 ghost use Rattle.node_meaning.specs.Needs.{Setting};
-ghost use Rattle.node_meaning.specs.TaskPlans.{plan_of};
+ghost use Rattle.stmt_meaning.specs.TaskPlans.{plan_of};
 ghost use Rattle.node_meaning.specs.Tasks.{expr_in, spent};
 ghost use Rattle.eval_data.specs.Parts.{here_of, flow_of};
 ghost use Rattle.eval_data.specs.Steps.{level_then};

@@ -3,7 +3,7 @@ use Rattle.std.proofs.Common.{◌≡◌, ℕ, [], take, refl, ap}
 use Rattle.abstract_syntax.specs.Statements.{StmtTree}
 use Rattle.plans.specs.Plans.{finish, part}
 use Rattle.node_meaning.specs.Envs.{Here, Locals, at}
-use Rattle.node_meaning.specs.Statements.{at_last, unless_replaced, with_locals}
+use Rattle.stmt_meaning.specs.Handlers.{at_last, unless_replaced, with_locals}
 use Rattle.node_meaning.specs.Tasks.{Flow as MeantFlow, gave, next, returned, exited, stmt_in}
 use Rattle.eval_data.specs.declared.flow.Flow.{Flow}
 use Rattle.eval_data.specs.declared.flow.Flow.TheVariants.{Gave, Next, Returned, Exited}
@@ -16,11 +16,11 @@ alike a b h (returned slot locals) = refl
 alike a b h (exited v from locals) = refl
 
 pub kept : (here : Here) (count : ℕ) (last : StmtTree) (flow : Flow) (locals : Locals)
-    → part (stmt_in (at here (take count locals)) last) (unless_replaced (flow_of flow [])) ≡ at_last here count last (flow_of flow locals)
+    → part (stmt_in (at here (take count locals)) [] last) (unless_replaced (flow_of flow [])) ≡ at_last here count last (flow_of flow locals)
 kept here count last (Gave slot) locals =
-    λ i. part (stmt_in (at here (take count locals)) last) (λ flow. alike (gave slot []) (gave slot locals) (λ l. refl) flow i)
-kept here count last Next locals = λ i. part (stmt_in (at here (take count locals)) last) (λ flow. alike (next []) (next locals) (λ l. refl) flow i)
+    λ i. part (stmt_in (at here (take count locals)) [] last) (λ flow. alike (gave slot []) (gave slot locals) (λ l. refl) flow i)
+kept here count last Next locals = λ i. part (stmt_in (at here (take count locals)) [] last) (λ flow. alike (next []) (next locals) (λ l. refl) flow i)
 kept here count last (Returned slot) locals =
-    λ i. part (stmt_in (at here (take count locals)) last) (λ flow. alike (returned slot []) (returned slot locals) (λ l. refl) flow i)
+    λ i. part (stmt_in (at here (take count locals)) [] last) (λ flow. alike (returned slot []) (returned slot locals) (λ l. refl) flow i)
 kept here count last (Exited v from) locals =
-    λ i. part (stmt_in (at here (take count locals)) last) (λ flow. alike (exited v from []) (exited v from locals) (λ l. refl) flow i)
+    λ i. part (stmt_in (at here (take count locals)) [] last) (λ flow. alike (exited v from []) (exited v from locals) (λ l. refl) flow i)

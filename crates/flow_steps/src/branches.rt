@@ -5,7 +5,8 @@ ghost use Rattle.abstract_syntax.specs.Classes.{SpecTree};
 ghost use Rattle.vdm_tree.specs.StmtView.{boxed_stmt, maybe_stmt};
 ghost use Rattle.node_meaning.specs.Envs.{Locals};
 ghost use Rattle.node_meaning.specs.Matching.{on_truth};
-ghost use Rattle.node_meaning.specs.Statements.{branch_taken, branches_of, otherwise_of as otherwise_plan};
+ghost use Rattle.stmt_meaning.specs.Blocks.{otherwise_of as otherwise_plan};
+ghost use Rattle.stmt_meaning.specs.Statements.{branch_taken, branches_of};
 ghost use Rattle.node_meaning.specs.Tasks.{with_value};
 ghost use Rattle.eval_data.specs.Parts.{here_of, flow_of};
 ghost use Rattle.step_data.specs.Parts.{branches_left};
@@ -13,7 +14,7 @@ ghost use Rattle.step_data.specs.Actions.{action_code, height};
 
 use crate::came::{Truth, truth_in};
 use eval_data::{Flow, Here};
-use step_data::{Action, Task, Waiting};
+use step_data::{Action, Pending, Task, Waiting};
 use vdm_kinds::Place;
 use vdm_tree::{Stmt, StmtBranch};
 
@@ -68,7 +69,7 @@ fn branches<'t>(
     match more {
         [next, others @ ..] => {
             let waiting = Waiting::Branches(here, &next.body, others, otherwise, place);
-            Action::Part(Task::Expr(here, &next.condition), waiting)
+            Action::Part(Task::Expr(here, &next.condition), Pending { waiting })
         }
         [] => otherwise_of(here, otherwise),
     }

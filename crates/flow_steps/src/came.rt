@@ -4,7 +4,7 @@ ghost use Rattle.std.specs.Prelude.{◌≡◌, ℤ, Bool};
 ghost use Rattle.vdm_kinds.specs.declared.place.Place.{Place as PlaceOf};
 ghost use Rattle.node_meaning.specs.Envs.{Locals};
 ghost use Rattle.node_meaning.specs.Matching.{on_truth};
-ghost use Rattle.node_meaning.specs.Statements.{on_number};
+ghost use Rattle.stmt_meaning.specs.Loops.{on_number};
 ghost use Rattle.node_meaning.specs.Tasks.{Code, with_value};
 ghost use Rattle.eval_data.specs.Parts.{flow_of};
 ghost use Rattle.flow_steps.specs.Came.{number_code, truth_code};

@@ -3,40 +3,66 @@
 ghost use Rattle.std.specs.Prelude.{◌≡◌, ◌≤◌};
 ghost use Rattle.abstract_syntax.specs.Classes.{SpecTree};
 ghost use Rattle.node_meaning.specs.Envs.{Locals};
-ghost use Rattle.node_meaning.specs.Statements.{called as called_plan, unless_ended as unless_ended_plan, sequence as sequence_plan, return_value as return_plan};
+ghost use Rattle.stmt_meaning.specs.Flows.{called as called_plan, unless_ended_at as unless_ended_plan, sequence as sequence_plan, return_value as return_plan};
+ghost use Rattle.node_meaning.specs.Tasks.{cut_to};
 ghost use Rattle.eval_data.specs.Parts.{here_of, flow_of};
 ghost use Rattle.step_data.specs.Parts.{statements_of};
 ghost use Rattle.step_data.specs.Actions.{action_code, height};
 
 use eval_data::{Flow, Here};
-use step_data::{Action, Task, Waiting};
+use step_data::{Action, Pending, Task, Waiting};
+use vdm_kinds::Name;
 use vdm_tree::Stmt;
 use vdm_values::{Slot, Value};
 
-/// The statements one after the other.
-pub fn sequence<'t>(here: Here<'t>, statements: &'t [Stmt]) -> Action<'t>
-    ensures same { (spec : SpecTree) (locals : Locals) → action_code spec locals result ≡ sequence_plan (here_of here.entry) (statements_of statements.now) locals }
+/// The statements one after the other, and then the locals behind the first so many go.
+pub fn sequence<'t>(
+    locals: &mut Vec<(Name, Slot)>,
+    here: Here<'t>,
+    statements: &'t [Stmt],
+    count: usize,
+) -> Action<'t>
+    ensures same { (spec : SpecTree) → action_code spec locals.new.items result ≡ sequence_plan (here_of here.entry) count (statements_of statements.now) locals.old.items }
     ensures falls { height result ≤ 1 }
 {
     match statements {
         [statement, others @ ..] => {
-            Action::Part(Task::Stmt(here, statement), Waiting::Rest(here, others))
+            let waiting = Waiting::Rest(here, others, count);
+            Action::Part(Task::Stmt(here, statement), Pending { waiting })
         }
-        [] => Action::Finish(Flow::Next),
+        [] => {
+            locals.truncate(count);
+            Action::Finish(Flow::Next)
+        }
     }
 }
 
 /// What follows a statement of a block: the others, unless it ended the body.
-pub fn unless_ended<'t>(here: Here<'t>, statements: &'t [Stmt], flow: Flow) -> Action<'t>
-    ensures same { (spec : SpecTree) (locals : Locals) → action_code spec locals result ≡ unless_ended_plan (sequence_plan (here_of here.entry) (statements_of statements.now)) (flow_of flow locals) }
+pub fn unless_ended<'t>(
+    locals: &mut Vec<(Name, Slot)>,
+    here: Here<'t>,
+    statements: &'t [Stmt],
+    count: usize,
+    flow: Flow,
+) -> Action<'t>
+    ensures same { (spec : SpecTree) → action_code spec locals.new.items result ≡ unless_ended_plan count (sequence_plan (here_of here.entry) count (statements_of statements.now)) (flow_of flow locals.old.items) }
     ensures falls { height result ≤ 1 }
 {
     match flow {
-        Flow::Next => sequence(here, statements),
-        Flow::Gave(slot) => Action::Finish(Flow::Gave(slot)),
-        Flow::Returned(slot) => Action::Finish(Flow::Returned(slot)),
-        Flow::Exited(value, from) => Action::Finish(Flow::Exited(value, from)),
+        Flow::Next => sequence(locals, here, statements, count),
+        Flow::Gave(slot) => cut(locals, count, Flow::Gave(slot)),
+        Flow::Returned(slot) => cut(locals, count, Flow::Returned(slot)),
+        Flow::Exited(value, from) => cut(locals, count, Flow::Exited(value, from)),
     }
+}
+
+/// The locals behind the first so many go; what came stays.
+pub fn cut<'t>(locals: &mut Vec<(Name, Slot)>, count: usize, flow: Flow) -> Action<'t>
+    ensures same { (spec : SpecTree) → action_code spec locals.new.items result ≡ cut_to count (flow_of flow locals.old.items) }
+    ensures falls { height result ≤ 1 }
+{
+    locals.truncate(count);
+    Action::Finish(flow)
 }
 
 /// What follows the call of a call statement: where it gave a value, that ends the body.

@@ -4,13 +4,14 @@ ghost use Rattle.std.specs.Prelude.{◌≡◌, ◌≤◌, []};
 ghost use Rattle.abstract_syntax.specs.Classes.{SpecTree};
 ghost use Rattle.vdm_tree.specs.StmtView.{boxed_stmt};
 ghost use Rattle.node_meaning.specs.Envs.{Locals};
-ghost use Rattle.node_meaning.specs.Statements.{at_last as at_last_plan, exit_value as exit_plan, unless_replaced as replaced_plan};
+ghost use Rattle.stmt_meaning.specs.Flows.{exit_value as exit_plan};
+ghost use Rattle.stmt_meaning.specs.Handlers.{at_last as at_last_plan, unless_replaced as replaced_plan};
 ghost use Rattle.node_meaning.specs.Tasks.{with_value};
 ghost use Rattle.eval_data.specs.Parts.{here_of, flow_of};
 ghost use Rattle.step_data.specs.Actions.{action_code, height};
 
 use eval_data::{Flow, Here};
-use step_data::{Action, Task, Waiting};
+use step_data::{Action, Pending, Task, Waiting};
 use vdm_kinds::{Name, Place, RunFault};
 use vdm_tree::Stmt;
 use vdm_values::Slot;
@@ -41,7 +42,12 @@ pub fn at_last<'t>(
     ensures falls { height result ≤ 1 }
 {
     locals.truncate(count);
-    Action::Part(Task::Stmt(here, last), Waiting::Replaced(flow))
+    Action::Part(
+        Task::Stmt(here, last),
+        Pending {
+            waiting: Waiting::Replaced(flow),
+        },
+    )
 }
 
 /// What came of the body of `always` stays, unless its last statement returned or exited.

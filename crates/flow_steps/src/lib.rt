@@ -8,5 +8,5 @@ mod leaving;
 
 pub use branches::branch_decided;
 pub use came::{Number, Truth, number_in, truth_in};
-pub use following::{called, return_value, sequence, unless_ended};
+pub use following::{called, cut, return_value, sequence, unless_ended};
 pub use leaving::{at_last, exit_with, unless_replaced};

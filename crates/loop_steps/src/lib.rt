@@ -6,5 +6,5 @@ mod rounds;
 mod whiles;
 
 pub use numbers::{by_number, first_number, last_number};
-pub use rounds::round_done;
-pub use whiles::again;
+pub use rounds::counted;
+pub use whiles::{again, while_decided};

@@ -3,7 +3,7 @@
 ghost use Rattle.std.specs.Prelude.{◌≡◌, ◌≤◌, IfOk};
 ghost use Rattle.abstract_syntax.specs.Classes.{SpecTree};
 ghost use Rattle.node_meaning.specs.Envs.{Locals};
-ghost use Rattle.node_meaning.specs.Statements.{on_number};
+ghost use Rattle.stmt_meaning.specs.Loops.{on_number};
 ghost use Rattle.node_meaning.specs.Tasks.{with_value};
 ghost use Rattle.eval_data.specs.Parts.{flow_of};
 ghost use Rattle.step_data.specs.Actions.{action_code, behind_by, behind_first, behind_last, height};
@@ -12,7 +12,7 @@ use crate::rounds::rounds_from;
 use eval_data::{Flow, Here};
 use flow_steps::{Number, number_in};
 use std::alloc::Global;
-use step_data::{Action, Counting, ForLoop, Task, Waiting};
+use step_data::{Action, Counting, ForLoop, Pending, Task, Waiting};
 use vdm_kinds::{Name, OutOfMemory, RunFault};
 use vdm_values::Slot;
 
@@ -34,7 +34,9 @@ fn counts_on<'t>(here: Here<'t>, rest: ForLoop<'t>, first: i128) -> Action<'t>
 {
     Action::Part(
         Task::Expr(here, rest.last),
-        Waiting::Last(here, rest, first),
+        Pending {
+            waiting: Waiting::Last(here, rest, first),
+        },
     )
 }
 
@@ -71,7 +73,7 @@ fn counts_to<'t>(
     match rest.by {
         Some(by) => {
             let waiting = Waiting::By(here, rest, first, last);
-            Ok(Action::Part(Task::Expr(here, by), waiting))
+            Ok(Action::Part(Task::Expr(here, by), Pending { waiting }))
         }
         None => counts_by(alloc, locals, here, rest, first, last, 1),
     }

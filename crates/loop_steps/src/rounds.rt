@@ -2,40 +2,20 @@
 
 ghost use Rattle.std.specs.Prelude.{◌≡◌, ◌≤◌, IfOk};
 ghost use Rattle.abstract_syntax.specs.Classes.{SpecTree};
-ghost use Rattle.node_meaning.specs.Statements.{counted as counted_plan, next_number, rounds_from as rounds_plan};
-ghost use Rattle.node_meaning.specs.Statements.{is_passed as is_passed_plan};
+ghost use Rattle.stmt_meaning.specs.Loops.{counted as counted_plan, next_number, rounds_from as rounds_plan};
+ghost use Rattle.stmt_meaning.specs.Loops.{is_passed as is_passed_plan};
 ghost use Rattle.eval_data.specs.Parts.{here_of, flow_of};
-ghost use Rattle.step_data.specs.Parts.{counting_of, round_of};
-ghost use Rattle.step_data.specs.Actions.{action_code, height, round_done as done_plan};
+ghost use Rattle.step_data.specs.Parts.{counting_of};
+ghost use Rattle.step_data.specs.Actions.{action_code, height};
 
-use crate::whiles::while_decided;
 use eval_data::{Flow, Here};
 use std::alloc::Global;
 use step_data::{Action, Counting, Round};
 use vdm_kinds::{Name, OutOfMemory};
 use vdm_values::{Node, Slot, Value};
 
-/// What is done behind the node with which a round began.
-pub fn round_done<'t>(
-    alloc: Global,
-    locals: &mut Vec<(Name, Slot)>,
-    here: Here<'t>,
-    round: Round<'t>,
-    flow: Flow,
-) -> Result<Action<'t>, OutOfMemory>
-    ensures same { IfOk result (λ a. (spec : SpecTree) → action_code spec locals.new.items a ≡ done_plan (here_of here.entry) (round_of round.entry) (flow_of flow locals.old.items)) }
-    ensures falls { IfOk result (λ a. height a ≤ 1) }
-{
-    match round {
-        Round::While(condition, body, place) => {
-            Ok(while_decided(here, condition, body, place, flow))
-        }
-        Round::Counts(counting) => counted(alloc, locals, here, counting, flow),
-    }
-}
-
 /// Behind the body of a round the next one follows, unless the body ended.
-fn counted<'t>(
+pub fn counted<'t>(
     alloc: Global,
     locals: &mut Vec<(Name, Slot)>,
     here: Here<'t>,

@@ -6,19 +6,20 @@ ghost use Rattle.expr_tree.specs.View.{boxed_view};
 ghost use Rattle.vdm_tree.specs.StmtView.{boxed_stmt};
 ghost use Rattle.node_meaning.specs.Envs.{Locals};
 ghost use Rattle.node_meaning.specs.Matching.{on_truth};
-ghost use Rattle.node_meaning.specs.Statements.{unless_ended, while_decided as while_plan, while_round};
+ghost use Rattle.stmt_meaning.specs.Flows.{unless_ended};
+ghost use Rattle.stmt_meaning.specs.Loops.{while_decided as while_plan, while_round};
 ghost use Rattle.node_meaning.specs.Tasks.{with_value};
 ghost use Rattle.eval_data.specs.Parts.{here_of, flow_of};
 ghost use Rattle.step_data.specs.Actions.{action_code, height};
 
 use eval_data::{Flow, Here};
 use flow_steps::{Truth, truth_in};
-use step_data::{Action, Round, Task, Waiting};
+use step_data::{Action, Pending, Round, Task, Waiting};
 use vdm_kinds::Place;
 use vdm_tree::{Expr, Stmt};
 
 /// What came of the condition decides whether the body follows.
-pub(crate) fn while_decided<'t>(
+pub fn while_decided<'t>(
     here: Here<'t>,
     condition: &'t Box<Expr>,
     body: &'t Box<Stmt>,
@@ -48,7 +49,7 @@ fn while_true<'t>(
 {
     if truth {
         let waiting = Waiting::Again(here, condition, body, place);
-        Action::Part(Task::Stmt(here, body), waiting)
+        Action::Part(Task::Stmt(here, body), Pending { waiting })
     } else {
         Action::Finish(Flow::Next)
     }

@@ -10,7 +10,7 @@ ghost use Rattle.step_data.specs.Parts.{task_of};
 ghost use Rattle.step_data.specs.Actions.{action_code, main_expression, height};
 
 use eval_data::{Flow, Here, Nest};
-use step_data::{Action, Asking, Task, Waiting};
+use step_data::{Action, Asking, Pending, Task, Waiting};
 use vdm_kinds::Name;
 use vdm_tree::Expr;
 use vdm_values::Slot;
@@ -22,7 +22,12 @@ pub fn make_class_objects<'t>(object: u32, classes: &'t [Name], tree: &'t Expr) 
 {
     match classes {
         [class, others @ ..] => Action::Ask(Asking::Class(object, others, *class, tree)),
-        [] => Action::Part(whole_expression(tree), Waiting::End),
+        [] => Action::Part(
+            whole_expression(tree),
+            Pending {
+                waiting: Waiting::End,
+            },
+        ),
     }
 }
 

@@ -32,6 +32,11 @@ pub fn question_of(alloc: Global, asking: &Asking<'_>) -> Result<Question, OutOf
             var: *var,
         }),
         Asking::Write(me, var, value, _) => write_question(alloc, *me, *var, value),
+        Asking::WriteTogether(me, pairs, _) => together_question(alloc, *me, pairs.as_slice()),
+        Asking::Old(_, me, var) => Ok(Question::Read {
+            object: *me,
+            var: *var,
+        }),
         Asking::New(class, slots, _) => Ok(Question::New {
             class: *class,
             values: slots.copy(alloc)?,
@@ -67,6 +72,23 @@ fn write_question(
         var,
         value: value.copy(alloc)?,
     })?;
+    Ok(Question::Write {
+        object,
+        writes: WriteList::from_vec(writes),
+    })
+}
+
+/// The question to write several variables together.
+fn together_question(alloc: Global, object: u32, pairs: &[Write]) -> Result<Question, OutOfMemory>
+    ensures { IfOk result (λ q. q ≡ Question.Write object pairs.now) }
+{
+    let mut writes = Vec::new(alloc);
+    for pair in pairs {
+        writes.push(Write {
+            var: pair.var,
+            value: pair.value.copy(alloc)?,
+        })?;
+    }
     Ok(Question::Write {
         object,
         writes: WriteList::from_vec(writes),

@@ -9,7 +9,7 @@ use Rattle.abstract_syntax.specs.Values.{ValueTree}
 use Rattle.abstract_syntax.specs.Expressions.{ExprTree, no_exprs, one_expr}
 use Rattle.expr_tree.specs.View.{views_of, expr_trees}
 use Rattle.expr_tree.specs.declared.expr.Expr.{Expr}
-use Rattle.node_meaning.specs.Calls.{Wanted}
+use Rattle.node_meaning.specs.Wanted.{Wanted}
 use Rattle.node_meaning.specs.Envs.{Locals, Here}
 use Rattle.node_meaning.specs.Expressions.{arguments_of, looked_up, looked_up_in, called_with, created_with}
 use Rattle.node_meaning.specs.Needs.{Setting}

@@ -5,7 +5,7 @@ use Rattle.vdm_kinds.specs.declared.member.VarRef.{VarRef}
 use Rattle.vdm_kinds.specs.declared.name.Name.{Name}
 use Rattle.vdm_kinds.specs.declared.place.Place.{Place}
 use Rattle.abstract_syntax.specs.Expressions.{ExprTree, ExprTrees, named, qualified, select}
-use Rattle.node_meaning.specs.Calls.{Wanted}
+use Rattle.node_meaning.specs.Wanted.{Wanted}
 use Rattle.node_meaning.specs.Envs.{Locals, Here}
 use Rattle.abstract_syntax.specs.Classes.{SpecTree}
 use Rattle.abstract_syntax.specs.Values.{ValueTree, object, record_of, value_trees}

@@ -3,7 +3,7 @@ use Rattle.vdm_kinds.specs.declared.name.Name.{Name}
 use Rattle.vdm_kinds.specs.declared.place.Place.{Place}
 use Rattle.abstract_syntax.specs.Expressions.{ExprTree, ExprTrees, named, qualified, select}
 use Rattle.expr_tree.specs.View.{boxed_view}
-use Rattle.node_meaning.specs.Calls.{Wanted}
+use Rattle.node_meaning.specs.Wanted.{Wanted}
 use Rattle.node_meaning.specs.Envs.{Locals, Here, local_named}
 use Rattle.node_meaning.specs.Expressions.{name_applied, qualified_applied, called_through, looked_up}
 use Rattle.node_meaning.specs.Needs.{Setting}

@@ -9,7 +9,7 @@ ghost use Rattle.node_meaning.specs.Expressions.{looked_up, called_or_looked_up,
 ghost use Rattle.node_meaning.specs.Functions.{application_of};
 ghost use Rattle.node_meaning.specs.Needs.{Setting};
 ghost use Rattle.node_meaning.specs.Strict.{two_operands, with_others, make};
-ghost use Rattle.node_meaning.specs.TaskPlans.{bare_call};
+ghost use Rattle.node_meaning.specs.Expressions.{bare_call};
 ghost use Rattle.eval_data.specs.Parts.{here_of, wanted_of};
 ghost use Rattle.eval_data.specs.Steps.{code_of, use_of};
 ghost use Rattle.value_steps.specs.Further.{gathered_code};

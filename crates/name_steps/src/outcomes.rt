@@ -2,7 +2,7 @@
 
 ghost use Rattle.std.specs.Prelude.{◌≡◌};
 ghost use Rattle.vdm_kinds.specs.declared.place.Place.{Place as PlaceOf};
-ghost use Rattle.node_meaning.specs.Calls.{given as given_plan, given_slot as given_slot_plan};
+ghost use Rattle.node_meaning.specs.Wanted.{given as given_plan, given_slot as given_slot_plan};
 ghost use Rattle.node_meaning.specs.Envs.{Locals};
 ghost use Rattle.node_meaning.specs.Needs.{Setting};
 ghost use Rattle.node_meaning.specs.Tasks.{with_value, value as value_of};

@@ -2,50 +2,23 @@
 
 ghost use Rattle.std.specs.Prelude.{◌≡◌, ◌≤◌, IfOk};
 ghost use Rattle.abstract_syntax.specs.Classes.{SpecTree};
-ghost use Rattle.node_meaning.specs.Calls.{finished_with as finish_plan};
+ghost use Rattle.stmt_meaning.specs.Calls.{finished_with as finish_plan};
 ghost use Rattle.node_meaning.specs.Envs.{Locals};
-ghost use Rattle.node_meaning.specs.Statements.{assigned as assigned_plan, return_value as return_plan, write_asked as write_plan};
+ghost use Rattle.stmt_meaning.specs.Flows.{return_value as return_plan};
 ghost use Rattle.node_meaning.specs.Tasks.{with_value};
-ghost use Rattle.vdm_tree.specs.StmtView.{target_view};
 ghost use Rattle.spec_table.specs.Tables.{table_spec};
-ghost use Rattle.eval_data.specs.Parts.{here_of, flow_of};
+ghost use Rattle.eval_data.specs.Parts.{flow_of};
 ghost use Rattle.step_data.specs.Actions.{action_code, height, slots_left};
 
 use call_steps::call::finished_with;
 use call_steps::testing::test_slots;
-use eval_data::{Flow, Here};
+use eval_data::Flow;
 use flow_steps::return_value;
 use spec_table::ClassTable;
 use std::alloc::Global;
 use step_data::{Action, Making};
-use stmt_steps::{assigned, write_asked};
-use vdm_kinds::{Name, OpRef, OutOfMemory, Place, RunFault, VarRef};
-use vdm_tree::Target;
+use vdm_kinds::{Name, OpRef, OutOfMemory, Place, RunFault};
 use vdm_values::Slot;
-
-/// What came is assigned, where it is a value.
-pub(crate) fn assigned_flow<'t>(
-    alloc: Global,
-    table: &'t ClassTable,
-    locals: &mut Vec<(Name, Slot)>,
-    here: Here<'t>,
-    target: &'t Target,
-    place: Place,
-    flow: Flow,
-) -> Result<Action<'t>, OutOfMemory>
-    ensures same { IfOk result (λ a. action_code (table_spec table.now) locals.new.items a ≡ with_value place (assigned_plan (table_spec table.now) (here_of here.entry) (target_view target.now) place) (flow_of flow locals.old.items)) }
-    ensures falls { IfOk result (λ a. height a ≤ 2) }
-{
-    match flow {
-        Flow::Gave(Slot::Held(value)) => {
-            assigned(alloc, table, locals, here, target, place, value)
-        }
-        Flow::Gave(Slot::Unset) => Ok(Action::Fail(RunFault::Undefined, place)),
-        Flow::Next => Ok(Action::Fail(RunFault::Undefined, place)),
-        Flow::Returned(_slot) => Ok(Action::Fail(RunFault::Undefined, place)),
-        Flow::Exited(value, from) => Ok(Action::Finish(Flow::Exited(value, from))),
-    }
-}
 
 /// What came is returned, where it is a value.
 pub(crate) fn returned_flow<'t>(place: Place, flow: Flow) -> Action<'t>
@@ -54,20 +27,6 @@ pub(crate) fn returned_flow<'t>(place: Place, flow: Flow) -> Action<'t>
 {
     match flow {
         Flow::Gave(Slot::Held(value)) => return_value(value),
-        Flow::Gave(Slot::Unset) => Action::Fail(RunFault::Undefined, place),
-        Flow::Next => Action::Fail(RunFault::Undefined, place),
-        Flow::Returned(_slot) => Action::Fail(RunFault::Undefined, place),
-        Flow::Exited(value, from) => Action::Finish(Flow::Exited(value, from)),
-    }
-}
-
-/// What came fits the type of the variable, where it is a value, and is written.
-pub(crate) fn written_flow<'t>(me: u32, var: VarRef, place: Place, flow: Flow) -> Action<'t>
-    ensures same { (spec : SpecTree) (locals : Locals) → action_code spec locals result ≡ with_value place (write_plan me var place) (flow_of flow locals) }
-    ensures falls { height result ≤ 2 }
-{
-    match flow {
-        Flow::Gave(Slot::Held(value)) => write_asked(me, var, place, value),
         Flow::Gave(Slot::Unset) => Action::Fail(RunFault::Undefined, place),
         Flow::Next => Action::Fail(RunFault::Undefined, place),
         Flow::Returned(_slot) => Action::Fail(RunFault::Undefined, place),

@@ -4,22 +4,31 @@ ghost use Rattle.std.specs.Prelude.{◌≡◌, ◌<◌, ◌≤◌, IfOk};
 ghost use Rattle.abstract_syntax.specs.Classes.{SpecTree};
 ghost use Rattle.node_meaning.specs.Envs.{Locals};
 ghost use Rattle.spec_table.specs.Tables.{table_spec};
-ghost use Rattle.eval_data.specs.Parts.{flow_of};
+ghost use Rattle.eval_data.specs.Parts.{flow_of, here_of};
 ghost use Rattle.eval_data.specs.Steps.{after_need};
-ghost use Rattle.step_data.specs.Actions.{action_code, waiting_then, waiting_weight, busy, height};
+ghost use Rattle.step_data.specs.Actions.{action_code, waiting_then, waiting_weight, busy, height, round_done as done_plan};
+ghost use Rattle.step_data.specs.Parts.{round_of};
 
-use crate::values::{assigned_flow, left_flow, returned_flow, tested_flow, written_flow};
+use crate::values::{left_flow, returned_flow, tested_flow};
 use call_steps::call::ended as call_ended;
 use call_steps::object::initialised;
-use eval_data::{After, Flow};
+use eval_data::{After, Flow, Here};
 use eval_steps::then_of as expression_then;
-use flow_steps::{at_last, branch_decided, called, exit_with, unless_ended, unless_replaced};
-use loop_steps::{again, by_number, first_number, last_number, round_done};
+use flow_steps::{at_last, branch_decided, called, cut, exit_with, unless_ended, unless_replaced};
+use goal_steps::{
+    assign_value, goal_fits, index_came, join_came, local_came, local_fits, store_value,
+};
+use loop_steps::{again, by_number, counted, first_number, last_number, while_decided};
 use main_steps::ended as main_ended;
+use meet_steps::{
+    alternatives, caught, defined, defined_fits, elements_of_sequence, elements_of_set, found,
+    given, next_element, trapped,
+};
 use name_steps::came_of_need;
 use spec_table::ClassTable;
 use std::alloc::Global;
-use step_data::{Action, Waiting};
+use step_data::{Action, Round, Waiting};
+use stmt_steps::{start, start_all};
 use vdm_kinds::{Name, OutOfMemory, Place};
 use vdm_values::Slot;
 
@@ -41,21 +50,29 @@ pub fn then_of<'t>(
         }
         Waiting::After(after, place) => Ok(behind_need(after, place, flow)),
         Waiting::Called => Ok(called(flow)),
-        Waiting::Rest(here, statements) => Ok(unless_ended(here, statements, flow)),
-        Waiting::Assign(here, target, place) => {
-            assigned_flow(alloc, table, locals, here, target, place, flow)
+        Waiting::Rest(here, statements, count) => {
+            Ok(unless_ended(locals, here, statements, count, flow))
         }
+        Waiting::Cut(count) => Ok(cut(locals, count, flow)),
+        Waiting::Local(declaring) => local_came(alloc, table, locals, declaring, flow),
+        Waiting::LocalFits(declaring) => local_fits(alloc, locals, declaring, flow),
+        Waiting::Assign(here, goal, place) => {
+            assign_value(alloc, table, locals, here, goal, place, flow)
+        }
+        Waiting::Store(goal, place) => store_value(alloc, locals, goal, place, flow),
+        Waiting::Index(assigning) => index_came(alloc, table, locals, assigning, flow),
+        Waiting::Join(assigning) => join_came(alloc, table, locals, assigning, flow),
+        Waiting::GoalFits(assigning) => goal_fits(alloc, table, locals, assigning, flow),
         Waiting::Return(place) => Ok(returned_flow(place, flow)),
         Waiting::Body(call, saved) => call_ended(alloc, table, locals, call, saved, flow),
         Waiting::Initial(making) => initialised(alloc, table, locals, making, flow),
-        Waiting::Write(me, var, place) => Ok(written_flow(me, var, place, flow)),
         Waiting::Leave(me, op, place) => Ok(left_flow(me, op, place, flow)),
         Waiting::Slots(making, tested) => tested_flow(alloc, table, locals, making, tested, flow),
         Waiting::Exit(place) => Ok(exit_with(place, flow)),
         Waiting::Branches(here, statement, more, otherwise, place) => {
             Ok(branch_decided(here, statement, more, otherwise, place, flow))
         }
-        Waiting::Round(here, round) => round_done(alloc, locals, here, round, flow),
+        Waiting::Round(here, round) => round_done(alloc, table, locals, here, round, flow),
         Waiting::Again(here, condition, body, place) => {
             Ok(again(here, condition, body, place, flow))
         }
@@ -66,7 +83,53 @@ pub fn then_of<'t>(
         }
         Waiting::AtLast(here, last, count) => Ok(at_last(locals, here, last, count, flow)),
         Waiting::Replaced(before) => Ok(unless_replaced(before, flow)),
+        Waiting::Trapped(here, pattern, handler, place, count) => {
+            trapped(
+                alloc, table, locals, here, pattern, handler, place, count, flow,
+            )
+        }
+        Waiting::Defined(defining) => defined(alloc, table, locals, defining, flow),
+        Waiting::DefinedFits(defining) => defined_fits(alloc, table, locals, defining, flow),
+        Waiting::Found(here, body, count) => Ok(found(here, body, count, flow)),
+        Waiting::Subject(here, cases, others, count, place) => {
+            alternatives(
+                alloc, table, locals, here, cases, others, count, place, flow,
+            )
+        }
+        Waiting::OfSet(here, pattern, body, place) => {
+            elements_of_set(alloc, table, locals, here, pattern, body, place, flow)
+        }
+        Waiting::OfSequence(here, pattern, body, place) => {
+            elements_of_sequence(alloc, table, locals, here, pattern, body, place, flow)
+        }
+        Waiting::Element(elements) => next_element(alloc, table, locals, elements, flow),
+        Waiting::Given(value) => given(alloc, table, locals, value, flow),
+        Waiting::Start(place) => Ok(start(place, flow)),
+        Waiting::StartAll(place) => Ok(start_all(place, flow)),
         Waiting::End => Ok(main_ended(flow)),
+    }
+}
+
+/// What is done behind the node with which a round began.
+fn round_done<'t>(
+    alloc: Global,
+    table: &'t ClassTable,
+    locals: &mut Vec<(Name, Slot)>,
+    here: Here<'t>,
+    round: Round<'t>,
+    flow: Flow,
+) -> Result<Action<'t>, OutOfMemory>
+    ensures same { IfOk result (λ a. action_code (table_spec table.now) locals.new.items a ≡ done_plan (table_spec table.now) (here_of here.entry) (round_of round.entry) (flow_of flow locals.old.items)) }
+    ensures falls { IfOk result (λ a. height a ≤ 1) }
+{
+    match round {
+        Round::While(condition, body, place) => {
+            Ok(while_decided(here, condition, body, place, flow))
+        }
+        Round::Counts(counting) => counted(alloc, locals, here, counting, flow),
+        Round::Handles(handlers, count, _, place) => {
+            caught(alloc, table, locals, here, handlers, count, place, flow)
+        }
     }
 }
 

@@ -7,13 +7,13 @@ use Rattle.abstract_syntax.specs.Classes.{SpecTree}
 use Rattle.abstract_syntax.specs.Expressions.{ExprTree, ExprTrees, MaybeExpr, left_out, given_expr, bind_in, BindTrees, no_binds, one_bind, PatternTree, expr_place}
 use Rattle.abstract_syntax.specs.Values.{ValueTree, boolean, set_of, value_list}
 use Rattle.bind_choices.specs.Choices.{choices_of}
-use Rattle.plans.specs.Plans.{part}
+use Rattle.plans.specs.Plans.{finish, part}
 use Rattle.pattern_meaning.specs.Brackets.{given_in}
 use Rattle.pattern_meaning.specs.Ways.{count_of_patterns}
 use Rattle.node_meaning.specs.Envs.{Locals, Here, at}
 use Rattle.node_meaning.specs.Matching.{bound_or, first_match, decided, exprs_of, pattern_list}
 use Rattle.node_meaning.specs.Strict.{Strict, collected, make}
-use Rattle.node_meaning.specs.Tasks.{expr_in, Code, fault, value, evaluated, cut_to}
+use Rattle.node_meaning.specs.Tasks.{expr_in, next, Code, fault, value, evaluated, cut_to}
 
 -- ---- what is done with the choices
 
@@ -27,6 +27,8 @@ pub data Chooser : Type 0 where
   the_one : ExprTree → Chooser
   -- `let be`: the condition, and the expression for the first choice that fulfils it
   takes_first : MaybeExpr → ExprTree → Chooser
+  -- `let be` of a statement: the condition; the names of the first choice that fulfils it stay bound
+  finds : MaybeExpr → Chooser
 
 -- a search among choices: where it stands, how many locals stand before those that a choice binds, the patterns with the values of the
 -- expressions in brackets in them, and what is done
@@ -46,6 +48,7 @@ condition_of (for_some condition) = given_expr condition
 condition_of (for_one condition) = given_expr condition
 condition_of (the_one condition) = given_expr condition
 condition_of (takes_first condition body) = condition
+condition_of (finds condition) = condition
 
 -- ---- one choice
 
@@ -62,6 +65,7 @@ fulfilled search (for_some condition) vs done further locals = value (boolean tr
 fulfilled search (for_one condition) vs done further locals = next_choice search further (done ++ boolean true ∷ []) locals
 fulfilled search (the_one condition) vs done further locals = next_choice search further (done ++ vs) locals
 fulfilled search (takes_first condition body) vs done further locals = part (expr_in (at search.here locals) body) (cut_to search.count)
+fulfilled search (finds condition) vs done further locals = finish (next locals)
 
 -- one that does not
 abbrev pub unfulfilled : Search → Chooser → List ValueTree → (List ValueTree → Locals → Code) → Locals → Code
@@ -92,6 +96,7 @@ exhausted (for_some condition) place done locals = value (boolean false) locals
 exhausted (for_one condition) place done locals = value (boolean (nat_eq (length done) 1)) locals
 exhausted (the_one condition) place done locals = the_only place done locals
 exhausted (takes_first condition body) place done locals = fault NoMatch place
+exhausted (finds condition) place done locals = fault NoMatch place
 
 -- the choices in order; one that the patterns do not match is passed over
 abbrev pub choose : SpecTree → Search → List (List ValueTree) → List ValueTree → Locals → Code

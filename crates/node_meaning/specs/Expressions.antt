@@ -81,7 +81,6 @@ use Rattle.abstract_syntax.specs.Values.{ValueTree, boolean, map_of, no_pairs, o
 use Rattle.pattern_meaning.specs.Ways.{literal_value}
 use Rattle.value_operators.specs.Outcomes.{sized}
 use Rattle.plans.specs.Plans.{become, part}
-use Rattle.node_meaning.specs.Calls.{Wanted, a_value, given}
 use Rattle.node_meaning.specs.Choosing.{collects, for_each, for_some, for_one, the_one, takes_first, choosing}
 use Rattle.node_meaning.specs.Envs.{Locals, Nest, Held, slot_held, Here, at, local_named, result_name}
 use Rattle.node_meaning.specs.Fitting.{as_answer, fit_then, fitting_in, typed_maybe}
@@ -92,6 +91,7 @@ use Rattle.node_meaning.specs.Needs.{Setting, asked}
 use Rattle.node_meaning.specs.Records.{field_exprs, field_names, field_value, record_changed, record_made}
 use Rattle.node_meaning.specs.Strict.{one_operand, two_operands, a_set, a_sequence, a_tuple, a_map, a_token, a_subsequence, a_component, strict, collected, with_others, make, maplet_exprs}
 use Rattle.node_meaning.specs.Tasks.{expr_in, reads, calls, creates, Code, fault, value, value_or_fault, with_value, evaluated, cut_to}
+use Rattle.node_meaning.specs.Wanted.{Wanted, a_value, no_value, given}
 
 -- ---- names
 
@@ -294,11 +294,15 @@ cases_met spec here place (one_case patterns body more) others count v locals =
     patterns_met spec here place v patterns count body (λ after. cases_met spec here place more others count v after) locals
 
 -- each definition sees the earlier ones; a value is tested against its type before it meets the pattern
-abbrev pub defined : SpecTree → Here → Place → ℕ → DefinedTrees → ExprTree → Locals → Code
-defined spec here place count no_defined body locals = within here count body locals
-defined spec here place count (one_defined pattern declared tree more) body locals =
+abbrev pub definitions : SpecTree → Here → Place → DefinedTrees → (Locals → Code) → Locals → Code
+definitions spec here place no_defined further locals = further locals
+definitions spec here place (one_defined pattern declared tree more) further locals =
     evaluated here locals tree place
-    (typed_maybe spec here.nest here.scope declared place (meets spec here place pattern (defined spec here place count more body) (no_match place)))
+    (typed_maybe spec here.nest here.scope declared place (meets spec here place pattern (definitions spec here place more further) (no_match place)))
+
+-- ... and then an expression
+abbrev pub defined : SpecTree → Here → Place → ℕ → DefinedTrees → ExprTree → Locals → Code
+defined spec here place count trees body locals = definitions spec here place trees (within here count body) locals
 
 -- ---- tests of types
 
@@ -365,3 +369,8 @@ expr_plan setting here locals (exists_one bind condition place) =
 expr_plan setting here locals (iota_of bind condition place) =
     choosing setting.spec here place (one_bind bind no_binds) (the_one condition) locals
 expr_plan setting here locals tree = fault Undefined (expr_place tree)
+
+-- a call whose value is not wanted: only an application is one
+abbrev pub bare_call : Setting → Here → Locals → ExprTree → Code
+bare_call setting here locals (apply head arguments place) = application setting here head arguments place no_value locals
+bare_call setting here locals tree = fault TypeFault (expr_place tree)

@@ -1,4 +1,3 @@
-pub mod Calls
 pub mod Choosing
 pub mod Envs
 pub mod Expressions
@@ -8,9 +7,7 @@ pub mod Functions
 pub mod Matching
 pub mod Names
 pub mod Needs
-pub mod Objects
 pub mod Records
-pub mod Statements
 pub mod Strict
-pub mod TaskPlans
 pub mod Tasks
+pub mod Wanted

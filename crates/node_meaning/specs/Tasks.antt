@@ -1,5 +1,5 @@
 -- What is evaluated, what comes of it, and what is asked on the way.
-use Rattle.std.specs.Prelude.{ℕ, ℤ, List, Result, Ok, Err, take}
+use Rattle.std.specs.Prelude.{ℕ, ℤ, List, [], ◌∷◌, ◌++◌, Result, Ok, Err, take}
 use Rattle.vdm_kinds.specs.declared.member.OpRef.{OpRef}
 use Rattle.vdm_kinds.specs.declared.member.VarRef.{VarRef}
 use Rattle.vdm_kinds.specs.declared.name.Name.{Name}
@@ -10,7 +10,8 @@ use Rattle.vdm_values.specs.declared.slot.Slot.{Slot}
 use Rattle.vdm_values.specs.declared.slot.Slot.TheVariants.{Unset, Held}
 use Rattle.abstract_syntax.specs.Values.{ValueTree}
 use Rattle.abstract_syntax.specs.Expressions.{ExprTree, expr_place}
-use Rattle.abstract_syntax.specs.Statements.{StmtTree, stmt_place}
+use Rattle.abstract_syntax.specs.Statements.{StmtTree, HandlerTrees, stmt_place}
+use Rattle.abstract_syntax.specs.Types.{TypeTree}
 use Rattle.run_journal.specs.declared.answer.Answer.{Answer}
 use Rattle.run_journal.specs.declared.question.Question.{Question}
 use Rattle.plans.specs.Plans.{Plan, finish, fail, ask, part, become}
@@ -32,6 +33,13 @@ pub data Round : Type 0 where
   -- of a `while` at this place: its condition, and the body where that is true
   while_true : ExprTree → StmtTree → Place → Round
   counts : Counting → Round
+  -- of a `tixe` at this place: its handlers, how many locals stand before those that a pattern binds, and a statement whose exits they
+  -- handle too
+  handles : HandlerTrees → ℕ → StmtTree → Place → Round
+
+-- the local variables that are declared round a statement, with their types, the newest last
+abbrev pub Declared : Type 0
+Declared = List (Name × TypeTree)
 
 -- what is evaluated: a node, which costs one unit
 pub data Task : Type 0 where
@@ -39,9 +47,9 @@ pub data Task : Type 0 where
   expr_in : Env → ExprTree → Task
   -- a call whose value is not wanted: that of a call statement, or the whole expression of a run
   call_in : Env → ExprTree → Task
-  stmt_in : Env → StmtTree → Task
+  stmt_in : Env → Declared → StmtTree → Task
   -- the node with which a round of a loop begins, and what is done behind it
-  round_in : Env → Round → Task
+  round_in : Env → Declared → Round → Task
 
 -- what comes of it, with the locals after it
 pub data Flow : Type 0 where
@@ -79,18 +87,45 @@ Code = Plan Task Flow Query Answer Fault
 abbrev pub env_of : Task → Env
 env_of (expr_in env tree) = env
 env_of (call_in env tree) = env
-env_of (stmt_in env tree) = env
-env_of (round_in env round) = env
+env_of (stmt_in env declared tree) = env
+env_of (round_in env declared round) = env
 
 abbrev pub round_place : Round → Place
 round_place (while_true condition body place) = expr_place condition
 round_place (counts counting) = stmt_place counting.body
+round_place (handles all count body place) = stmt_place body
 
 abbrev pub task_place : Task → Place
 task_place (expr_in env tree) = expr_place tree
 task_place (call_in env tree) = expr_place tree
-task_place (stmt_in env tree) = stmt_place tree
-task_place (round_in env round) = round_place round
+task_place (stmt_in env declared tree) = stmt_place tree
+task_place (round_in env declared round) = round_place round
+
+-- ---- what is declared round a statement
+
+-- what stands round a statement, and behind it what it declares itself
+abbrev pub declared_behind : Declared → Declared → Declared
+declared_behind outer [] = outer
+declared_behind outer (d ∷ own) = outer ++ d ∷ own
+
+-- a statement among further local variables. An expression assigns to none.
+abbrev pub task_among : Declared → Task → Task
+task_among outer (expr_in env tree) = expr_in env tree
+task_among outer (call_in env tree) = call_in env tree
+task_among outer (stmt_in env own tree) = stmt_in env (declared_behind outer own) tree
+task_among outer (round_in env own round) = round_in env (declared_behind outer own) round
+
+abbrev pub all_among : Declared → Code → Code
+all_among outer (finish flow) = finish flow
+all_among outer (fail f) = fail f
+all_among outer (ask query further) = ask query (λ answer. all_among outer (further answer))
+all_among outer (part task further) = part (task_among outer task) (λ flow. all_among outer (further flow))
+all_among outer (become task) = become (task_among outer task)
+
+-- what is done among these local variables: each statement of it stands among them
+abbrev pub among : Declared → Code → Code
+among [] code = code
+among (d ∷ outer) code = all_among (d ∷ outer) code
 
 -- ---- where faults stand
 

@@ -1,2 +1,2 @@
-//! What each node does: expressions, statements, calls of operations and new objects. Definitions alone.
+//! What each node of an expression does, and what is evaluated. Definitions alone.
 #![tactic(auto)]

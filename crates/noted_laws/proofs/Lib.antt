@@ -1,9 +1,13 @@
+pub mod NotedBlocks
 pub mod NotedCalls
 pub mod NotedChoices
+pub mod NotedFlows
 pub mod NotedFunctions
+pub mod NotedLoops
 pub mod NotedNodes
 pub mod NotedRecords
 pub mod NotedStatements
+pub mod NotedTargets
 pub mod NotedTasks
 pub mod Noting
 pub mod OnlyAsked

@@ -12,13 +12,15 @@ use Rattle.abstract_syntax.specs.Statements.{StmtTree}
 use Rattle.abstract_syntax.specs.Classes.{Body, written, OperationTree, SpecTree}
 use Rattle.run_journal.specs.declared.answer.Answer.{Answer}
 use Rattle.run_journal.specs.declared.answer.Answer.TheVariants.{Inner, Object}
-use Rattle.node_meaning.specs.Calls.{Wanted, a_value, no_value, given_slot, given, finished_with, left_with, ended, begun, activated, called}
+use Rattle.node_meaning.specs.Wanted.{Wanted, a_value, no_value, given_slot, given}
+use Rattle.stmt_meaning.specs.Calls.{finished_with, left_with, ended, begun, activated, called}
 use Rattle.node_meaning.specs.Envs.{Locals, no_nest}
 use Rattle.node_meaning.specs.Names.{operation_definition, variable_definition, variables_of}
-use Rattle.node_meaning.specs.Needs.{asked, questions_of}
-use Rattle.node_meaning.specs.Objects.{created, initial_of, initial_then, initial_value, initialise, make_object, new_object, object_asked}
+use Rattle.node_meaning.specs.Needs.{asked}
+use Rattle.stmt_meaning.specs.Questions.{questions_of}
+use Rattle.stmt_meaning.specs.Objects.{created, initial_of, initial_then, initial_value, initialise, make_object, new_object, object_asked}
 use Rattle.node_meaning.specs.Tasks.{Code, Flow, gave, next, returned, exited, Need, reads, calls, creates, prints, tells_time}
-use Rattle.vdm_meaning.specs.Main.{of_thread}
+use Rattle.stmt_meaning.specs.Questions.{of_thread}
 use Rattle.noted_laws.proofs.OnlyAsked.{bind-asks}
 use Rattle.noted_laws.proofs.Noting.{IsNoted, Notes, notes-slots_typed, notes-typed}
 

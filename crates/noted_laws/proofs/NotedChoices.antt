@@ -8,7 +8,7 @@ use Rattle.abstract_syntax.specs.Expressions.{ExprTree, MaybeExpr, left_out, giv
 use Rattle.abstract_syntax.specs.Classes.{SpecTree}
 use Rattle.bind_choices.specs.Choices.{choices_of}
 use Rattle.pattern_meaning.specs.Brackets.{given_in}
-use Rattle.node_meaning.specs.Choosing.{Chooser, Search, collects, for_each, for_some, for_one, the_one, takes_first, behind_sets, bind_sources, bound_patterns, by_truth, choose, choosing, condition_of, exhausted, fulfilled, next_choice, search_with, sets_of, the_only, tried, unfulfilled, with_elements}
+use Rattle.node_meaning.specs.Choosing.{Chooser, Search, collects, for_each, for_some, for_one, the_one, takes_first, finds, behind_sets, bind_sources, bound_patterns, by_truth, choose, choosing, condition_of, exhausted, fulfilled, next_choice, search_with, sets_of, the_only, tried, unfulfilled, with_elements}
 use Rattle.node_meaning.specs.Envs.{Here, Locals}
 use Rattle.node_meaning.specs.Matching.{exprs_of, first_match}
 use Rattle.node_meaning.specs.Tasks.{Code}
@@ -26,6 +26,7 @@ module _ (search : Search) where
     notes-fulfilled (for_one condition) vs done locals = h (done ++ boolean true ∷ []) (take search.count locals)
     notes-fulfilled (the_one condition) vs done locals = h (done ++ vs) (take search.count locals)
     notes-fulfilled (takes_first condition body) vs done locals = notes-cut_to search.count
+    notes-fulfilled (finds condition) vs done locals = tt
 
     notes-unfulfilled : (chooser : Chooser) (done : List ValueTree) → Onward (unfulfilled search chooser done further)
     notes-unfulfilled (for_each condition) done locals = tt
@@ -53,6 +54,7 @@ module _ (search : Search) where
   notes-exhausted (for_one condition) place done locals = tt
   notes-exhausted (the_one condition) place done locals = notes-the_only place done locals
   notes-exhausted (takes_first condition body) place done locals = tt
+  notes-exhausted (finds condition) place done locals = tt
 
   notes-choose : (spec : SpecTree) (choices : List (List ValueTree)) → OnwardWith (choose spec search choices)
   notes-choose spec [] done locals = notes-exhausted search.chooser search.place done locals

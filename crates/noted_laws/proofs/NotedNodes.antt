@@ -17,17 +17,17 @@ use Rattle.abstract_syntax.specs.Expressions.{ExprTree, literal, named, qualifie
 use Rattle.abstract_syntax.specs.Classes.{SpecTree}
 use Rattle.value_operators.specs.Outcomes.{sized}
 use Rattle.pattern_meaning.specs.Ways.{literal_value}
-use Rattle.node_meaning.specs.Calls.{Wanted, a_value, given}
+use Rattle.node_meaning.specs.Wanted.{Wanted, a_value, given}
 use Rattle.node_meaning.specs.Choosing.{collects, for_each, for_some, for_one, the_one, takes_first}
 use Rattle.node_meaning.specs.Envs.{Locals, Held, slot_held, Here, local_named, result_name}
-use Rattle.node_meaning.specs.Expressions.{slot_value, held_value, read_on, read_held, read_found, member_value, value_named, name_value, read_member, selected, looked_up, called_with, no_such_call, called_on, arguments_of, looked_up_in, field_applied, called_through, called_or_looked_up, applied_or_called, name_applied, qualified_applied, application, created_with, decided_by, truth, unless_decided, right_truth, joined_by, prefixed_by, branch, branches, within, no_match, others_of, patterns_met, cases_met, defined, fit_value, expr_plan}
+use Rattle.node_meaning.specs.Expressions.{slot_value, held_value, read_on, read_held, read_found, member_value, value_named, name_value, read_member, selected, looked_up, called_with, no_such_call, called_on, arguments_of, looked_up_in, field_applied, called_through, called_or_looked_up, applied_or_called, name_applied, qualified_applied, application, created_with, decided_by, truth, unless_decided, right_truth, joined_by, prefixed_by, branch, branches, within, no_match, others_of, patterns_met, cases_met, defined, definitions, fit_value, expr_plan}
 use Rattle.node_meaning.specs.Fitting.{typed_maybe}
 use Rattle.node_meaning.specs.Matching.{meets}
 use Rattle.node_meaning.specs.Names.{function_in, operation_in, operation_reached, own_reached, value_in, variable_in}
 use Rattle.node_meaning.specs.Records.{field_exprs, field_names, field_value, record_changed, record_made, record_type}
 use Rattle.node_meaning.specs.Strict.{one_operand, two_operands, a_set, a_sequence, a_tuple, a_map, a_token, a_subsequence, a_component, collected, make, maplet_exprs}
 use Rattle.node_meaning.specs.Tasks.{Flow, reads, calls, creates, Code, value, with_value, evaluated}
-use Rattle.vdm_meaning.specs.Main.{of_thread}
+use Rattle.stmt_meaning.specs.Questions.{of_thread}
 use Rattle.noted_laws.proofs.Noting.{Notes, Onward, OnwardWith, notes-collected, notes-cut_to, notes-decided, notes-evaluated, notes-fit_value, notes-make, notes-meets, notes-strict, notes-typed_maybe, notes-value_or_fault, notes-with_value}
 use Rattle.noted_laws.proofs.NotedCalls.{notes-asked, notes-given}
 use Rattle.noted_laws.proofs.NotedChoices.{notes-choosing}
@@ -189,13 +189,16 @@ module _ (spec : SpecTree) (here : Here) (place : Place) where
   notes-cases_met (one_case patterns body more) others count v locals =
       notes-patterns_met v patterns count body (λ after. cases_met spec here place more others count v after) (notes-cases_met more others count v) locals
 
-  notes-defined : (count : ℕ) (definitions : DefinedTrees) (body : ExprTree) → Onward (defined spec here place count definitions body)
-  notes-defined count no_defined body locals = notes-within count body locals
-  notes-defined count (one_defined pattern declared tree more) body locals =
-      let goes = meets spec here place pattern (defined spec here place count more body) (no_match place) in
+  pub notes-definitions : (trees : DefinedTrees) (further : Locals → Code) → Onward further → Onward (definitions spec here place trees further)
+  notes-definitions no_defined further h locals = h locals
+  notes-definitions (one_defined pattern declared tree more) further h locals =
+      let goes = meets spec here place pattern (definitions spec here place more further) (no_match place) in
       notes-evaluated here locals tree place (typed_maybe spec here.nest here.scope declared place goes)
       (notes-typed_maybe spec here.nest here.scope declared place goes
-      (notes-meets spec here place pattern (defined spec here place count more body) (no_match place) (notes-defined count more body) (λ after. tt)))
+      (notes-meets spec here place pattern (definitions spec here place more further) (no_match place) (notes-definitions more further h) (λ after. tt)))
+
+  notes-defined : (count : ℕ) (trees : DefinedTrees) (body : ExprTree) → Onward (defined spec here place count trees body)
+  notes-defined count trees body = notes-definitions trees (within here count body) (notes-within count body)
 
 -- ---- all kinds of expressions
 

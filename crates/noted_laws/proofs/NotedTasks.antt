@@ -4,49 +4,55 @@ use Rattle.vdm_kinds.specs.declared.name.Name.{Name}
 use Rattle.abstract_syntax.specs.Expressions.{ExprTree, apply}
 use Rattle.abstract_syntax.specs.Classes.{SpecTree}
 use Rattle.run_journal.specs.declared.answer.Answer.{Answer}
-use Rattle.plans.specs.Plans.{finish, fail, ask, part, become, run, meaning}
+use Rattle.plans.specs.Plans.{bind, part, run, meaning}
 use Rattle.vdm_legal.specs.ClassObjects.{classes_of}
-use Rattle.node_meaning.specs.Calls.{no_value}
-use Rattle.node_meaning.specs.Envs.{Locals, Nest, Here}
+use Rattle.node_meaning.specs.Wanted.{no_value}
+use Rattle.node_meaning.specs.Envs.{Locals, Here}
 use Rattle.node_meaning.specs.Expressions.{expr_plan}
 use Rattle.node_meaning.specs.Matching.{on_truth}
-use Rattle.node_meaning.specs.Statements.{while_decided, counted, stmt_plan}
-use Rattle.node_meaning.specs.TaskPlans.{bare_call, node_plan, plan_of, round_plan}
-use Rattle.node_meaning.specs.Tasks.{Task, expr_in, call_in, stmt_in, round_in, Round, while_true, counts, Flow, gave, next, returned, exited, Code, env_of, placed, spent, with_value}
-use Rattle.vdm_meaning.specs.Main.{ended, whole_expression, make_class_objects, main_plan, of_thread}
+use Rattle.stmt_meaning.specs.Handlers.{caught}
+use Rattle.stmt_meaning.specs.Loops.{while_decided, counted}
+use Rattle.stmt_meaning.specs.Statements.{stmt_plan}
+use Rattle.node_meaning.specs.Expressions.{bare_call}
+use Rattle.stmt_meaning.specs.TaskPlans.{node_plan, plan_of, round_plan}
+use Rattle.node_meaning.specs.Tasks.{among, Declared, Task, expr_in, call_in, stmt_in, round_in, Round, while_true, counts, handles, Flow, gave, next, returned, exited, env_of, spent, with_value}
+use Rattle.vdm_meaning.specs.Main.{ended, whole_expression, make_class_objects, main_plan}
+use Rattle.stmt_meaning.specs.Questions.{of_thread}
 use Rattle.noted_laws.proofs.OnlyAsked.{NeedsOnly, bind-asks, needs-only}
-use Rattle.noted_laws.proofs.Noting.{IsNoted, Notes, notes-on_truth, notes-with_value}
+use Rattle.noted_laws.proofs.Noting.{IsNoted, Notes, notes-among, notes-on_truth, notes-placed, notes-with_value}
 use Rattle.noted_laws.proofs.NotedNodes.{notes-application, notes-expr}
-use Rattle.noted_laws.proofs.NotedStatements.{notes-counted, notes-statement, notes-while_decided}
-
--- wherever the faults stand
-notes-placed : (nest : Nest) (code : Code) → Notes code → Notes (placed nest code)
-notes-placed nest (finish flow) h = tt
-notes-placed nest (fail f) h = tt
-notes-placed nest (ask query further) h = (h.0, λ a. notes-placed nest (further a) (h.1 a))
-notes-placed nest (part task further) h = λ flow. notes-placed nest (further flow) (h flow)
-notes-placed nest (become task) h = tt
+use Rattle.noted_laws.proofs.NotedFlows.{notes-caught}
+use Rattle.noted_laws.proofs.NotedLoops.{notes-counted, notes-while_decided}
+use Rattle.noted_laws.proofs.NotedStatements.{notes-statement}
 
 module _ (spec : SpecTree) where
   notes-bare_call : (here : Here) (locals : Locals) (tree : ExprTree) → Notes (bare_call (of_thread spec) here locals tree)
   notes-bare_call here locals (apply head arguments place) = notes-application spec here place no_value head arguments locals
   notes-bare_call here locals tree = tt
 
-  notes-round : (here : Here) (locals : Locals) (round : Round) → Notes (round_plan (of_thread spec) here locals round)
-  notes-round here locals (while_true condition body place) =
-      bind-asks IsNoted (expr_plan (of_thread spec) here locals condition) (with_value place (on_truth place (while_decided here condition body place)))
+  notes-round : (here : Here) (declared : Declared) (locals : Locals) (round : Round) → Notes (round_plan (of_thread spec) here declared locals round)
+  notes-round here declared locals (while_true condition body place) =
+      let further = on_truth place (while_decided here condition body place) in
+      bind-asks IsNoted (expr_plan (of_thread spec) here locals condition) (λ flow. among declared (with_value place further flow))
       (notes-expr spec here locals condition)
-      (notes-with_value place (on_truth place (while_decided here condition body place))
-      (notes-on_truth place (while_decided here condition body place) (notes-while_decided spec here condition body place)))
-  notes-round here locals (counts counting) =
-      bind-asks IsNoted (stmt_plan spec here locals counting.body) (counted here counting)
-      (notes-statement spec here locals counting.body) (notes-counted spec here counting)
+      (λ flow.
+      notes-among declared (with_value place further flow)
+      (notes-with_value place further (notes-on_truth place (while_decided here condition body place) (notes-while_decided here condition body place)) flow))
+  notes-round here declared locals (counts counting) =
+      notes-among declared (bind (stmt_plan spec here declared locals counting.body) (counted here counting))
+      (bind-asks IsNoted (stmt_plan spec here declared locals counting.body) (counted here counting)
+      (notes-statement spec here declared locals counting.body) (notes-counted here counting))
+  notes-round here declared locals (handles all count body place) =
+      notes-among declared (bind (stmt_plan spec here declared locals body) (caught spec here place all count))
+      (bind-asks IsNoted (stmt_plan spec here declared locals body) (caught spec here place all count)
+      (notes-statement spec here declared locals body) (notes-caught spec here place all count))
 
   notes-node : (task : Task) → Notes (node_plan (of_thread spec) task)
   notes-node (expr_in env tree) = notes-expr spec env.here env.locals tree
   notes-node (call_in env tree) = notes-bare_call env.here env.locals tree
-  notes-node (stmt_in env statement) = notes-statement spec env.here env.locals statement
-  notes-node (round_in env round) = notes-round env.here env.locals round
+  notes-node (stmt_in env declared statement) =
+      notes-among declared (stmt_plan spec env.here declared env.locals statement) (notes-statement spec env.here declared env.locals statement)
+  notes-node (round_in env declared round) = notes-round env.here declared env.locals round
 
   notes-task : (task : Task) → Notes (plan_of (of_thread spec) task)
   notes-task task = notes-placed (env_of task).here.nest (node_plan (of_thread spec) task) (notes-node task)

@@ -14,12 +14,13 @@ use Rattle.abstract_syntax.specs.Classes.{InvariantTree, VariableTree, SpecTree}
 use Rattle.type_meaning.specs.Tests.{Fitting, fits, wrong_type, wrong_invariant, Decision, decided as known, asks}
 use Rattle.pattern_meaning.specs.Bindings.{Binding}
 use Rattle.pattern_meaning.specs.Brackets.{given_in}
+use Rattle.plans.specs.Plans.{finish, fail, ask, part, become}
 use Rattle.node_meaning.specs.Envs.{Here, Locals, Nest, no_nest, deeper, inside_class, bound_locals}
 use Rattle.node_meaning.specs.Fitting.{arguments_typed, as_answer, by_holding, fit_then, fitted, fitted_maybe, fitting_in, if_fits, invariant_of, slot_typed, slots_typed, typed, typed_maybe}
 use Rattle.node_meaning.specs.Matching.{are_within_limits, bound_or, decided, exprs_of, first_match, meets, met, on_truth}
 use Rattle.node_meaning.specs.Names.{variable_definition}
 use Rattle.node_meaning.specs.Strict.{Strict, collected, made_of, make, strict}
-use Rattle.node_meaning.specs.Tasks.{Code, Flow, gave, next, returned, exited, Query, noted, needed, fault, value_or_fault, with_value, evaluated, cut_to}
+use Rattle.node_meaning.specs.Tasks.{Declared, all_among, among, placed, Code, Flow, gave, next, returned, exited, Query, noted, needed, fault, value_or_fault, with_value, evaluated, cut_to}
 use Rattle.noted_laws.proofs.OnlyAsked.{AsksOnly, bind-asks}
 
 -- an entry answers it: it is no need as such
@@ -164,3 +165,25 @@ module _ (spec : SpecTree) (place : Place) where
   notes-slots_typed (var ∷ vars) (slot ∷ slots) further h =
       notes-slot_typed var.class (variable_definition spec var) slot (slots_typed spec place vars slots further) (notes-slots_typed vars slots further h)
   notes-slots_typed _ _ further h = h
+
+-- ---- what is put round a plan
+
+-- wherever the faults stand
+pub notes-placed : (nest : Nest) (code : Code) → Notes code → Notes (placed nest code)
+notes-placed nest (finish flow) h = tt
+notes-placed nest (fail f) h = tt
+notes-placed nest (ask query further) h = (h.0, λ a. notes-placed nest (further a) (h.1 a))
+notes-placed nest (part task further) h = λ flow. notes-placed nest (further flow) (h flow)
+notes-placed nest (become task) h = tt
+
+-- among whatever local variables
+notes-all_among : (outer : Declared) (code : Code) → Notes code → Notes (all_among outer code)
+notes-all_among outer (finish flow) h = tt
+notes-all_among outer (fail f) h = tt
+notes-all_among outer (ask query further) h = (h.0, λ a. notes-all_among outer (further a) (h.1 a))
+notes-all_among outer (part task further) h = λ flow. notes-all_among outer (further flow) (h flow)
+notes-all_among outer (become task) h = tt
+
+pub notes-among : (outer : Declared) (code : Code) → Notes code → Notes (among outer code)
+notes-among [] code h = h
+notes-among (d ∷ outer) code h = notes-all_among (d ∷ outer) code h

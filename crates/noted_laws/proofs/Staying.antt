@@ -6,9 +6,10 @@ use Rattle.run_journal.specs.declared.answer.Answer.{Answer}
 use Rattle.plans.specs.Plans.{Outcome, gives, faults, needs, run, meaning, Outlasts}
 use Rattle.plans.proofs.Adding.{reached, run-outlasts}
 use Rattle.node_meaning.specs.Faults.{Fault}
-use Rattle.node_meaning.specs.TaskPlans.{plan_of}
+use Rattle.stmt_meaning.specs.TaskPlans.{plan_of}
 use Rattle.node_meaning.specs.Tasks.{Flow, Need, Query, noted, needed, spent}
-use Rattle.vdm_meaning.specs.Main.{over, standing_of, main_plan, main_code, of_thread}
+use Rattle.vdm_meaning.specs.Main.{over, standing_of, main_plan, main_code}
+use Rattle.stmt_meaning.specs.Questions.{of_thread}
 use Rattle.noted_laws.proofs.OnlyAsked.{NeedsOnly}
 use Rattle.noted_laws.proofs.Noting.{IsNoted}
 use Rattle.noted_laws.proofs.NotedTasks.{main-notes}

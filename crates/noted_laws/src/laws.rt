@@ -5,9 +5,10 @@ ghost use Rattle.abstract_syntax.specs.Classes.{SpecTree};
 ghost use Rattle.abstract_syntax.specs.Expressions.{ExprTree};
 ghost use Rattle.run_journal.specs.declared.answer.Answer.{Answer};
 ghost use Rattle.plans.specs.Plans.{needs, run, meaning};
-ghost use Rattle.node_meaning.specs.TaskPlans.{plan_of};
+ghost use Rattle.stmt_meaning.specs.TaskPlans.{plan_of};
 ghost use Rattle.node_meaning.specs.Tasks.{Need, needed, spent};
-ghost use Rattle.vdm_meaning.specs.Main.{over, main_code, main_plan, of_thread};
+ghost use Rattle.vdm_meaning.specs.Main.{over, main_code, main_plan};
+ghost use Rattle.stmt_meaning.specs.Questions.{of_thread};
 
 /// Main has no need as such, whatever it is answered: it asks questions that entries answer.
 pub fn main_has_no_need()

@@ -15,4 +15,6 @@ pub use fields::field_value;
 pub use made::field_fits;
 pub use making::record_made;
 pub use nodes::{make_record, modify_record};
+pub use placing::with_field;
 pub use selecting::selected;
+pub use types::fields_of;

@@ -63,8 +63,13 @@ fn where_none(left: &[FieldValue], values: Vec<Value>) -> Option<Vec<Value>>
     }
 }
 
-/// The values with another one where the first field of the name stands.
-fn with_field(name: Name, value: Value, fields: &[Field], values: Vec<Value>) -> Option<Vec<Value>>
+/// The values with another one where the first field of the name stands. None where there is no such field.
+pub fn with_field(
+    name: Name,
+    value: Value,
+    fields: &[Field],
+    values: Vec<Value>,
+) -> Option<Vec<Value>>
     ensures { option_map (λ vs. vs.items) result ≡ with_field name value (map field_view fields.now) values.items }
 {
     match place_of(name, fields) {

@@ -35,7 +35,7 @@ fn type_scope(scope: Option<Name>) -> Name
 }
 
 /// The fields of the record type of a class and a name, in order. None where there is no such type.
-pub(crate) fn fields_of(table: &ClassTable, class: Name, name: Name) -> Option<&[Field]>
+pub fn fields_of(table: &ClassTable, class: Name, name: Name) -> Option<&[Field]>
     ensures { option_map (λ (fields : Bor (List Field)). map field_view fields.now) result ≡ fields_of (table_spec table.now) class name }
 {
     let definition = table.type_def(class, None, name)?;

@@ -13,7 +13,7 @@ use crate::ends::exhausted;
 use crate::found::Found;
 use crate::matched::{decides, first_element, taken};
 use crate::passing::first_found;
-use eval_data::{Chooser, Search, Step};
+use eval_data::{Chooser, Flow, Search, Step};
 use spec_table::ClassTable;
 use std::alloc::Global;
 use vdm_kinds::{Name, OutOfMemory};
@@ -64,6 +64,10 @@ fn tried<'t>(alloc: Global, search: Box<Search<'t>>) -> Result<Step<'t>, OutOfMe
         Chooser::TakesFirst(condition, body) => match condition {
             Some(condition) => Ok(decides(search, condition)),
             None => Ok(taken(search, body)),
+        },
+        Chooser::Finds(condition) => match condition {
+            Some(condition) => Ok(decides(search, condition)),
+            None => Ok(Step::Finish(Flow::Next)),
         },
     }
 }

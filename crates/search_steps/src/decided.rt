@@ -14,7 +14,7 @@ use crate::chosen::choose;
 use crate::ends::truth;
 use crate::kept::with_choice;
 use crate::matched::{first_element, taken};
-use eval_data::{Chooser, Search, Step};
+use eval_data::{Chooser, Flow, Search, Step};
 use spec_table::ClassTable;
 use std::alloc::Global;
 use std::mem::replace;
@@ -54,6 +54,7 @@ fn fulfilled<'t>(
         Chooser::ForOne(_) => counted(alloc, table, locals, search),
         Chooser::TheOne(_) => keeps(alloc, table, locals, search),
         Chooser::TakesFirst(_, body) => Ok(taken(search, body)),
+        Chooser::Finds(_) => Ok(Step::Finish(Flow::Next)),
     }
 }
 

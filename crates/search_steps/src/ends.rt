@@ -42,6 +42,7 @@ fn ended<'t>(
         Chooser::ForOne(_) => Ok(truth(done.len() == 1)),
         Chooser::TheOne(_) => Ok(the_only(place, done)),
         Chooser::TakesFirst(_, _) => Ok(Step::Fail(RunFault::NoMatch, place)),
+        Chooser::Finds(_) => Ok(Step::Fail(RunFault::NoMatch, place)),
     }
 }
 

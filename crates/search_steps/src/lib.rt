@@ -18,6 +18,6 @@ mod sets;
 
 pub use chosen::choose;
 pub use decided::{choice_decided, next_choice};
-pub use kinds::{choosing_in, choosing_one, choosing_several};
+pub use kinds::{choosing_in, choosing_one, choosing_several, finding};
 pub use searching::searches;
 pub use sets::elements;

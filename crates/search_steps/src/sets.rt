@@ -2,13 +2,16 @@
 
 ghost use Rattle.std.specs.Prelude.{◌≡◌, ◌+◌, ◌++◌, IfOk, Some, slice_get, replicate};
 ghost use Rattle.abstract_syntax.specs.Expressions.{expr_place};
+ghost use Rattle.expr_tree.specs.View.{boxed_view};
+ghost use Rattle.plans.specs.Plans.{part};
 ghost use Rattle.node_meaning.specs.Choosing.{behind_sets};
-ghost use Rattle.node_meaning.specs.Envs.{Locals};
+ghost use Rattle.node_meaning.specs.Envs.{Locals, at};
 ghost use Rattle.node_meaning.specs.Needs.{Setting};
+ghost use Rattle.node_meaning.specs.Tasks.{expr_in};
 ghost use Rattle.spec_table.specs.Tables.{table_spec};
 ghost use Rattle.eval_data.specs.declared.frame.Use.TheVariants.{Elements};
 ghost use Rattle.eval_data.specs.Parts.{here_of, chooser_of, patterns_at, sources_from};
-ghost use Rattle.eval_data.specs.Steps.{code_of, use_of, source_at, sets_behind};
+ghost use Rattle.eval_data.specs.Steps.{code_of, frame_then, use_of, source_at, sets_behind};
 ghost use Rattle.search_steps.specs.Gathering.{sets_from};
 
 use crate::copies::with_copies;
@@ -55,9 +58,16 @@ pub(crate) fn set_part<'t>(sets: Box<Sets<'t>>, source: Source<'t>) -> Step<'t>
     requires { slice_get sets.value.sources.items sets.value.at ≡ Some source }
     ensures { (setting : Setting) (locals : Locals) → code_of setting locals result ≡ sets_from setting.spec sets.entry.value locals }
 {
-    let here = sets.here;
+    part_of(sets.here, source.set, set_frame(sets, source))
+}
+
+/// What is done with the value of the set from this source.
+pub(crate) fn set_frame<'t>(sets: Box<Sets<'t>>, source: Source<'t>) -> Frame<'t>
+    requires { slice_get sets.value.sources.items sets.value.at ≡ Some source }
+    ensures { (setting : Setting) (locals : Locals) → part (expr_in (at (here_of sets.entry.value.here) locals) (boxed_view source.entry.set.now)) (frame_then setting result) ≡ sets_from setting.spec sets.entry.value locals }
+{
     let place = sets.place;
-    part_of(here, source.set, Frame::With(Use::Elements(sets), place))
+    Frame::With(Use::Elements(sets), place)
 }
 
 // All sets came.

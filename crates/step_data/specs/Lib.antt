@@ -1,2 +1,5 @@
 pub mod Actions
+pub mod Declarations
+pub mod Goals
+pub mod Meetings
 pub mod Parts

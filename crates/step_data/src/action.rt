@@ -4,10 +4,13 @@ ghost use Rattle.std.specs.Prelude.{◌≡◌, ◌≤◌};
 ghost use Rattle.abstract_syntax.specs.Classes.{SpecTree};
 ghost use Rattle.node_meaning.specs.Envs.{Locals};
 ghost use Rattle.eval_data.specs.Steps.{code_of};
-ghost use Rattle.step_data.specs.Actions.{action_code, of_thread, height};
+ghost use Rattle.step_data.specs.Actions.{action_code, height};
+ghost use Rattle.stmt_meaning.specs.Questions.{of_thread};
 
 use crate::asking::Asking;
+use crate::block::BlockRest;
 use crate::fit_part::FitPart;
+use crate::pending::Pending;
 use crate::round::Round;
 use crate::task::Task;
 use crate::waiting::Waiting;
@@ -26,11 +29,13 @@ pub enum Action<'t> {
     Uncaught(Value, Place),
     Ask(Asking<'t>),
     /// A part, and what is done with what comes of it.
-    Part(Task<'t>, Waiting<'t>),
+    Part(Task<'t>, Pending<'t>),
     /// A node in the stead of another.
     Become(Task<'t>),
     /// A round of a loop.
     Round(Here<'t>, Round<'t>),
+    /// The statements of a block, among its local variables.
+    Block(BlockRest<'t>),
     /// A part of the test of a value in an expression, with what is done behind it.
     Test(Box<TestPart<'t>>),
     /// A part of the test of a value elsewhere, with what is done behind it.
@@ -49,7 +54,12 @@ impl<'t> Action<'t> {
             Step::Finish(flow) => Action::Finish(flow),
             Step::Fail(fault, place) => Action::Fail(fault, place),
             Step::Part(here, tree, frame) => {
-                Action::Part(Task::Expr(here, tree), Waiting::Expr(frame))
+                Action::Part(
+                    Task::Expr(here, tree),
+                    Pending {
+                        waiting: Waiting::Expr(frame),
+                    },
+                )
             }
             Step::Become(here, tree) => Action::Become(Task::Expr(here, tree)),
             Step::Test(test) => Action::Test(test),

@@ -1,7 +1,9 @@
 // What a thread asks.
 
+use crate::assigning::Assigning;
 use crate::call::Call;
 use eval_data::Flow;
+use run_journal::Write;
 use vdm_kinds::{Name, OpRef, Place, VarRef};
 use vdm_tree::Expr;
 use vdm_values::{Slot, SlotList, Value};
@@ -21,6 +23,10 @@ pub enum Asking<'t> {
     Read(u32, VarRef),
     /// A variable of the object of this number is written, for the statement at the place.
     Write(u32, VarRef, Value, Place),
+    /// These variables of the object of this number are written together, for the statement at the place.
+    WriteTogether(u32, Vec<Write>, Place),
+    /// A variable is read, a part of which is to be changed.
+    Old(Box<Assigning<'t>>, u32, VarRef),
     /// An object of the class is made of its slots, for the node at the place.
     New(Name, SlotList, Place),
     /// Main ends with this.

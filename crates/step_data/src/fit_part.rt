@@ -8,6 +8,7 @@ ghost use Rattle.step_data.specs.declared.waiting.Waiting.TheVariants.{End};
 ghost use Rattle.step_data.specs.Actions.{action_code, busy, height, nested};
 
 use crate::action::Action;
+use crate::pending::Pending;
 use crate::waiting::Waiting;
 use eval_data::{Frame, Here};
 use std::alloc::Global;
@@ -21,7 +22,7 @@ pub struct FitPart<'t> {
     pub here: Here<'t>,
     pub tree: &'t Expr,
     pub inner: Frame<'t>,
-    pub outer: Waiting<'t>,
+    pub outer: Pending<'t>,
 }
 
 // By hand, so that whoever drops it calls this, and does not prove again the dropping of all that is in a frame.
@@ -38,11 +39,16 @@ impl<'t> Drop for FitPart<'t> {
 
 impl<'t> FitPart<'t> {
     /// Takes out what is done with what comes of the test.
-    pub fn take_outer(&mut self) -> Waiting<'t>
+    pub fn take_outer(&mut self) -> Pending<'t>
         ensures taken { result ≡ self.old.outer }
-        ensures left { self.new ≡ record self.old { outer = End } }
+        ensures left { self.new ≡ record self.old { outer = record { waiting = End } } }
     {
-        mem::replace(&mut self.outer, Waiting::End)
+        mem::replace(
+            &mut self.outer,
+            Pending {
+                waiting: Waiting::End,
+            },
+        )
     }
 
     /// Takes out what is done with what comes of the part.
@@ -71,7 +77,7 @@ impl<'t> Action<'t> {
             here,
             tree,
             inner,
-            outer,
+            outer: Pending { waiting: outer },
         };
         Ok(Action::Fit(Box::new(alloc, part)?))
     }

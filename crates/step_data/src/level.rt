@@ -1,11 +1,11 @@
 // A level of the stack of a thread.
 
-use crate::waiting::Waiting;
-use eval_data::Nest;
+use crate::around::Around;
+use crate::pending::Pending;
 
-/// What waits for what comes of a part, and the tests of types round the node that waits.
+/// What waits for what comes of a part, and what stands round the node that waits.
 #[derive(Drop)]
 pub struct Level<'t> {
-    pub nest: Nest,
-    pub waiting: Waiting<'t>,
+    pub around: Around<'t>,
+    pub waiting: Pending<'t>,
 }

@@ -8,7 +8,7 @@ ghost use Rattle.step_data.specs.Parts.{first_task, round_of, task_of};
 use crate::task::Task;
 use eval_data::Here;
 use vdm_kinds::{Name, Place};
-use vdm_tree::{Expr, Stmt};
+use vdm_tree::{Expr, Handler, Stmt};
 
 /// Where `for i = a to b by c` stands.
 #[derive(Clone, Copy)]
@@ -31,6 +31,9 @@ pub enum Round<'t> {
     /// Of a `while` at the place: its condition, and the body where that is true.
     While(&'t Box<Expr>, &'t Box<Stmt>, Place),
     Counts(Counting<'t>),
+    /// Of a `tixe` at the place: its handlers, how many locals stand before those that a pattern binds, and the statement whose exits
+    /// they handle.
+    Handles(&'t [Handler], usize, &'t Box<Stmt>, Place),
 }
 
 impl<'t> Round<'t> {
@@ -41,6 +44,7 @@ impl<'t> Round<'t> {
         match self {
             Round::While(condition, _, _) => Task::Expr(here, condition),
             Round::Counts(counting) => Task::Stmt(here, counting.body),
+            Round::Handles(_, _, body, _) => Task::Stmt(here, body),
         }
     }
 }

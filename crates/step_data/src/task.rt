@@ -4,7 +4,7 @@ ghost use Rattle.std.specs.Prelude.{◌≡◌};
 ghost use Rattle.node_meaning.specs.Envs.{Locals};
 ghost use Rattle.node_meaning.specs.Tasks.{env_of, task_place};
 ghost use Rattle.eval_data.specs.Parts.{nest_of};
-ghost use Rattle.step_data.specs.Parts.{task_of};
+ghost use Rattle.step_data.specs.Parts.{is_statement, task_of};
 
 use eval_data::{Here, Nest};
 use vdm_kinds::Place;
@@ -39,5 +39,12 @@ impl<'t> Task<'t> {
             Task::Expr(_, tree) | Task::Call(_, tree) => tree.place(),
             Task::Stmt(_, tree) => tree.place(),
         }
+    }
+
+    /// Whether it is a statement, which may assign to local variables.
+    pub fn is_statement(self) -> bool
+        ensures { result ≡ is_statement self.entry }
+    {
+        matches!(self, Task::Stmt(_, _))
     }
 }

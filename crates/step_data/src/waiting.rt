@@ -1,11 +1,16 @@
 // What is done with what comes of a part.
 
+use crate::assigning::Assigning;
+use crate::block::Declaring;
 use crate::call::Call;
+use crate::goal::Goal;
 use crate::making::Making;
+use crate::meeting::{Defining, Elements, Given};
 use crate::round::{ForLoop, Round};
 use eval_data::{After, Flow, Frame, Here};
-use vdm_kinds::{Name, OpRef, Place, VarRef};
-use vdm_tree::{Expr, Stmt, StmtBranch, Target};
+use expr_tree::Pattern;
+use vdm_kinds::{Name, OpRef, Place};
+use vdm_tree::{Expr, Stmt, StmtBranch, StmtCase};
 use vdm_values::Slot;
 
 /// What is done with what comes of a part.
@@ -17,18 +22,30 @@ pub enum Waiting<'t> {
     After(After, Place),
     /// Behind the call of a call statement.
     Called,
-    /// The statements that follow in a block.
-    Rest(Here<'t>, &'t [Stmt]),
-    /// It is assigned to the target, by the statement at the place.
-    Assign(Here<'t>, &'t Target, Place),
+    /// The statements that follow in a block, and how many locals stand before its own.
+    Rest(Here<'t>, &'t [Stmt], usize),
+    /// The locals that were bound for a statement go: so many stand before them.
+    Cut(usize),
+    /// It is the initial value of a local variable.
+    Local(Box<Declaring<'t>>),
+    /// It fits the type of the local variable.
+    LocalFits(Box<Declaring<'t>>),
+    /// It is assigned to this, by the statement at the place.
+    Assign(Here<'t>, Goal<'t>, Place),
+    /// It fits the type, and is written there, by the statement at the place.
+    Store(Goal<'t>, Place),
+    /// It is an index of a target, or behind all of them the value for the part.
+    Index(Box<Assigning<'t>>),
+    /// It is what a variable gets together with others.
+    Join(Box<Assigning<'t>>),
+    /// It fits the type of the variable that gets it.
+    GoalFits(Box<Assigning<'t>>),
     /// It is returned, by the statement at the place.
     Return(Place),
     /// Behind the body of a call, with the caller's locals.
     Body(Call<'t>, Vec<(Name, Slot)>),
     /// It is what an initialiser gives.
     Initial(Box<Making<'t>>),
-    /// It fits the type of the variable of the object of this number, and is written, by the statement at the place.
-    Write(u32, VarRef, Place),
     /// It fits the type of the result of the operation, called on the object of this number: the call is to end. The place is that of
     /// the call.
     Leave(u32, OpRef, Place),
@@ -52,6 +69,28 @@ pub enum Waiting<'t> {
     AtLast(Here<'t>, &'t Box<Stmt>, usize),
     /// Behind the last statement of `always`, whose body left this.
     Replaced(Flow),
+    /// Behind the body of `trap` at the place: its pattern, its handler, and how many locals stand before those of the pattern.
+    Trapped(Here<'t>, &'t Box<Pattern>, &'t Box<Stmt>, Place, usize),
+    /// It is what a definition gives.
+    Defined(Box<Defining<'t>>),
+    /// It fits the type of the definition.
+    DefinedFits(Box<Defining<'t>>),
+    /// Behind the search of `let be`: the statement, and how many locals stand before those of the choice.
+    Found(Here<'t>, &'t Box<Stmt>, usize),
+    /// It meets the patterns of the alternatives of the statement at the place.
+    Subject(Here<'t>, &'t [StmtCase], &'t Option<Box<Stmt>>, usize, Place),
+    /// It has the elements of a loop: a set.
+    OfSet(Here<'t>, &'t Box<Pattern>, &'t Box<Stmt>, Place),
+    /// ... and a sequence.
+    OfSequence(Here<'t>, &'t Box<Pattern>, &'t Box<Stmt>, Place),
+    /// Behind the body for one element.
+    Element(Box<Elements<'t>>),
+    /// It is the value of an expression in brackets in a pattern.
+    Given(Box<Given<'t>>),
+    /// It is the object whose thread is to start, by the statement at the place.
+    Start(Place),
+    /// They are the objects whose threads are to start.
+    StartAll(Place),
     /// Behind the whole expression, which main ends with.
     End,
 }

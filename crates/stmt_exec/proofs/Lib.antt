@@ -1,2 +1,2 @@
+pub mod Acting
 pub mod Resting
-pub mod Running

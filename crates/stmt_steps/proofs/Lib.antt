@@ -1,2 +1,3 @@
-pub mod Assigning
+pub mod Answering
+pub mod Finding
 pub mod Views

@@ -1,8 +1,10 @@
 //! What statements do.
 #![tactic(auto)]
 
-mod assignment;
+mod leaving;
+mod looping;
 mod statements;
+mod threads;
 
-pub use assignment::{assigned, write_asked, written};
 pub use statements::statement;
+pub use threads::{start, start_all};

@@ -102,30 +102,48 @@ use Rattle.abstract_syntax.specs.Statements.{
   TargetTree,
   variable,
   variable_of_class,
+  AssignmentTree,
+  LocalTree,
   DclTree,
   StmtTree,
   StmtTrees,
-  assign,
-  call,
+  MaybeStmt,
+  StmtBranches,
+  StmtCases,
+  HandlerTrees,
   block,
+  assign,
+  assign_together,
+  call,
   returns,
   exits,
+  let_then,
+  let_be_then,
+  def_then,
   if_then,
+  cases_then,
   while_do,
   for_numbers,
+  for_set,
+  for_sequence,
+  trap_exit,
+  trap_exits,
   always_after,
   in_parallel,
+  start_thread,
+  start_threads,
   skips,
   errs,
   no_stmts,
   one_stmt,
-  MaybeStmt,
   no_stmt,
   given_stmt,
-  StmtBranches,
   no_stmt_branches,
   one_stmt_branch,
-  stmt_place,
+  no_stmt_cases,
+  one_stmt_case,
+  no_handlers,
+  one_handler,
 }
 use Rattle.abstract_syntax.specs.Classes.{
   InvariantTree,
@@ -325,44 +343,75 @@ unbuilt_in_call tree = Some (expr_place tree)
 
 -- ---- statements
 
-abbrev pub step_place : TargetStepTree → Place
-step_place (field_of name name_place place) = place
-step_place (element_at index place) = place
-
--- a variable without steps
-abbrev pub unbuilt_in_target : TargetTree → Option Place
-unbuilt_in_target (variable name [] place) = None
-unbuilt_in_target (variable name (step ∷ steps) place) = Some (step_place step)
-unbuilt_in_target (variable_of_class class name name_place steps place) = Some place
-
--- no local variables
-abbrev pub unbuilt_in_locals : List DclTree → Option Place
-unbuilt_in_locals [] = None
-unbuilt_in_locals (dcl ∷ dcls) = Some dcl.place
-
 -- a part that may be left out
 abbrev pub unbuilt_if_given : Option ExprTree → Option Place
 unbuilt_if_given None = None
 unbuilt_if_given (Some part) = unbuilt_in_expr part
 
+-- of the steps into a variable their indices
+abbrev pub unbuilt_in_step : TargetStepTree → Option Place
+unbuilt_in_step (field_of name name_place place) = None
+unbuilt_in_step (element_at index place) = unbuilt_in_expr index
+
+abbrev pub unbuilt_in_steps : List TargetStepTree → Option Place
+unbuilt_in_steps [] = None
+unbuilt_in_steps (step ∷ steps) = or_behind (unbuilt_in_step step) (unbuilt_in_steps steps)
+
+abbrev pub unbuilt_in_target : TargetTree → Option Place
+unbuilt_in_target (variable name steps place) = unbuilt_in_steps steps
+unbuilt_in_target (variable_of_class class name name_place steps place) = or_behind (unbuilt_of_io class place) (unbuilt_in_steps steps)
+
+abbrev pub unbuilt_in_assignment : AssignmentTree → Option Place
+unbuilt_in_assignment a = or_behind (unbuilt_in_target a.target) (unbuilt_in_expr a.value)
+
+abbrev pub unbuilt_in_assignments : List AssignmentTree → Option Place
+unbuilt_in_assignments [] = None
+unbuilt_in_assignments (a ∷ assignments) = or_behind (unbuilt_in_assignment a) (unbuilt_in_assignments assignments)
+
+-- of local variables their initial values
+abbrev pub unbuilt_in_each_local : List LocalTree → Option Place
+unbuilt_in_each_local [] = None
+unbuilt_in_each_local (local ∷ others) = or_behind (unbuilt_if_given local.initial) (unbuilt_in_each_local others)
+
+abbrev pub unbuilt_in_locals : List DclTree → Option Place
+unbuilt_in_locals [] = None
+unbuilt_in_locals (dcl ∷ dcls) = or_behind (unbuilt_in_each_local dcl.locals) (unbuilt_in_locals dcls)
+
 abbrev mutual
+  -- one line a kind, with its parts in text order
   pub unbuilt_in_stmt : StmtTree → Option Place
-  unbuilt_in_stmt (assign target value place) = or_behind (unbuilt_in_target target) (unbuilt_in_expr value)
-  unbuilt_in_stmt (call application place) = unbuilt_in_call application
   unbuilt_in_stmt (block locals statements place) = or_behind (unbuilt_in_locals locals) (unbuilt_in_stmts statements)
+  unbuilt_in_stmt (assign target value place) = or_behind (unbuilt_in_target target) (unbuilt_in_expr value)
+  unbuilt_in_stmt (assign_together assignments place) = unbuilt_in_assignments assignments
+  unbuilt_in_stmt (call application place) = unbuilt_in_call application
   unbuilt_in_stmt (returns value place) = unbuilt_if_given value
   unbuilt_in_stmt (exits value place) = unbuilt_if_given value
+  unbuilt_in_stmt (let_then definitions body place) = or_behind (unbuilt_in_defined definitions) (unbuilt_in_stmt body)
+  unbuilt_in_stmt (let_be_then bind condition body place) =
+      or_behind (unbuilt_in_bind bind) (or_behind (unbuilt_if_given condition) (unbuilt_in_stmt body))
+  unbuilt_in_stmt (def_then pattern value body place) =
+      or_behind (unbuilt_in_pattern pattern) (or_behind (unbuilt_in_expr value) (unbuilt_in_stmt body))
   unbuilt_in_stmt (if_then condition body elseifs otherwise place) =
       or_behind (unbuilt_in_expr condition)
       (or_behind (unbuilt_in_stmt body) (or_behind (unbuilt_in_branch_stmts elseifs) (unbuilt_in_maybe_stmt otherwise)))
+  unbuilt_in_stmt (cases_then subject cases others place) =
+      or_behind (unbuilt_in_expr subject) (or_behind (unbuilt_in_case_stmts cases) (unbuilt_in_maybe_stmt others))
   unbuilt_in_stmt (while_do condition body place) = or_behind (unbuilt_in_expr condition) (unbuilt_in_stmt body)
   unbuilt_in_stmt (for_numbers name name_place first last by body place) =
       or_behind (unbuilt_in_expr first) (or_behind (unbuilt_in_expr last) (or_behind (unbuilt_if_given by) (unbuilt_in_stmt body)))
+  unbuilt_in_stmt (for_set pattern set body place) =
+      or_behind (unbuilt_in_pattern pattern) (or_behind (unbuilt_in_expr set) (unbuilt_in_stmt body))
+  unbuilt_in_stmt (for_sequence pattern items body place) =
+      or_behind (unbuilt_in_pattern pattern) (or_behind (unbuilt_in_expr items) (unbuilt_in_stmt body))
+  unbuilt_in_stmt (trap_exit pattern handler body place) =
+      or_behind (unbuilt_in_pattern pattern) (or_behind (unbuilt_in_stmt handler) (unbuilt_in_stmt body))
+  unbuilt_in_stmt (trap_exits handlers body place) = or_behind (unbuilt_in_handlers handlers) (unbuilt_in_stmt body)
   unbuilt_in_stmt (always_after last body place) = or_behind (unbuilt_in_stmt last) (unbuilt_in_stmt body)
   unbuilt_in_stmt (in_parallel statements place) = unbuilt_in_stmts statements
+  unbuilt_in_stmt (start_thread object place) = unbuilt_in_expr object
+  unbuilt_in_stmt (start_threads objects place) = unbuilt_in_expr objects
   unbuilt_in_stmt (skips place) = None
   unbuilt_in_stmt (errs place) = None
-  unbuilt_in_stmt statement = Some (stmt_place statement)
 
   pub unbuilt_in_stmts : StmtTrees → Option Place
   unbuilt_in_stmts no_stmts = None
@@ -376,6 +425,16 @@ abbrev mutual
   unbuilt_in_branch_stmts no_stmt_branches = None
   unbuilt_in_branch_stmts (one_stmt_branch condition statement branches) =
       or_behind (unbuilt_in_expr condition) (or_behind (unbuilt_in_stmt statement) (unbuilt_in_branch_stmts branches))
+
+  pub unbuilt_in_case_stmts : StmtCases → Option Place
+  unbuilt_in_case_stmts no_stmt_cases = None
+  unbuilt_in_case_stmts (one_stmt_case patterns statement cases) =
+      or_behind (unbuilt_in_patterns patterns) (or_behind (unbuilt_in_stmt statement) (unbuilt_in_case_stmts cases))
+
+  pub unbuilt_in_handlers : HandlerTrees → Option Place
+  unbuilt_in_handlers no_handlers = None
+  unbuilt_in_handlers (one_handler pattern statement handlers) =
+      or_behind (unbuilt_in_pattern pattern) (or_behind (unbuilt_in_stmt statement) (unbuilt_in_handlers handlers))
 
 -- ---- types, values and functions
 

@@ -10,7 +10,7 @@ use Rattle.vdm_kinds.specs.declared.sign.Sign.{Sign}
 use Rattle.abstract_syntax.specs.Literals.{whole_literal, boolean_literal}
 use Rattle.abstract_syntax.specs.Types.{TypeTree, basic_type}
 use Rattle.abstract_syntax.specs.Expressions.{ExprTree, ExprTrees, PatternTree, BindTrees, literal, named, self_object, current_time, joined, create, apply, select, no_exprs, one_expr, bind_in, no_binds, one_bind, equal_to, record_pattern, no_patterns, one_pattern}
-use Rattle.abstract_syntax.specs.Statements.{variable, StmtTree, StmtTrees, StmtBranches, MaybeStmt, assign, call, block, returns, if_then, for_numbers, start_thread, no_stmts, one_stmt, no_stmt_branches, one_stmt_branch}
+use Rattle.abstract_syntax.specs.Statements.{variable, AssignmentTree, LocalTree, StmtTree, StmtTrees, StmtBranches, MaybeStmt, assign, call, block, returns, if_then, for_numbers, no_stmts, one_stmt, no_stmt_branches, one_stmt_branch}
 use Rattle.abstract_syntax.specs.Classes.{TypeDefTree, same_as, ValueDefTree, VariableTree, variable_item, written, FunctionTree, OperationTree, BlockTree, variables, operations, ClassTree, SpecTree}
 
 abbrev pub at : ℕ → Place
@@ -94,9 +94,13 @@ current_call column = call (applied (current_time (at column)) no_exprs (column 
 abbrev pub gives : ExprTree → ℕ → StmtTree
 gives value column = returns (Some value) (at column)
 
--- `start(object)`
-abbrev pub starting : ExprTree → ℕ → StmtTree
-starting object column = start_thread object (at column)
+-- `name := value` among others, for a name of one letter
+abbrev pub setting_to : Name → ExprTree → ℕ → AssignmentTree
+setting_to name value column = record { target = variable name [] (at column); value = value }
+
+-- `name : nat`, from this column on, with an initial value or without
+abbrev pub a_local : Name → Option ExprTree → ℕ → LocalTree
+a_local name initial column = record { name = name; name_place = at column; declared = basic_type Nat (at (column + 4)); initial = initial }
 
 -- `if condition then body ..`, from column 1 on
 abbrev pub chosen : ExprTree → StmtTree → StmtBranches → MaybeStmt → StmtTree

@@ -6,6 +6,7 @@ mod worked;
 
 pub use laws::{one_answer, one_specification, phases_follow, variables_stand_alone};
 pub use worked::{
-    built_bindings, built_classes, built_expressions, built_functions, built_operations,
-    built_records, built_statements, refused_behind, refused_in_turn,
+    built_assignments, built_bindings, built_blocks, built_classes, built_expressions,
+    built_functions, built_handlers, built_operations, built_records, built_statements,
+    refused_behind, refused_in_turn,
 };

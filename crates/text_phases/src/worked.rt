@@ -10,12 +10,12 @@ ghost use Rattle.vdm_kinds.specs.declared.spec_kind.SpecKind.TheVariants.{LeftOu
 ghost use Rattle.vdm_lexer.specs.Lexemes.{fault_at};
 ghost use Rattle.abstract_syntax.specs.Types.{basic_type, bracketed_type};
 ghost use Rattle.abstract_syntax.specs.Expressions.{qualified, self_object, current_time, result_value, bracketed, prefixed, set_comprehension, map_enumeration, make_record, modify_record, is_of_type, is_of_named, is_of_basic, is_of_class, same_class, history, select_of_class, let_in, let_be, def_in, if_else, cases_of, for_all, no_exprs, one_expr, left_out, given_expr, no_maplets, one_maplet, no_field_values, one_field_value, no_defined, one_defined, no_branches, one_branch, no_cases, one_case, bind_in, any_value, bound, equal_to, map_pattern, tuple_pattern, record_pattern, no_patterns, one_pattern, no_maplet_patterns, one_maplet_pattern};
-ghost use Rattle.abstract_syntax.specs.Statements.{variable, variable_of_class, element_at, assign, call, returns, exits, cases_then, while_do, for_set, for_sequence, trap_exit, always_after, in_parallel, skips, errs, no_stmt, given_stmt, no_stmt_branches, one_stmt_branch, no_stmt_cases};
+ghost use Rattle.abstract_syntax.specs.Statements.{field_of, element_at, variable, variable_of_class, assign, assign_together, call, block, returns, exits, let_then, let_be_then, def_then, cases_then, while_do, for_set, for_sequence, trap_exit, trap_exits, always_after, in_parallel, start_thread, start_threads, skips, errs, no_stmt, given_stmt, no_stmt_branches, one_stmt_branch, no_stmt_cases, one_stmt_case, no_handlers, one_handler};
 ghost use Rattle.abstract_syntax.specs.Classes.{variable_item, invariant_item, not_yet_specified, subclass_responsibility, procedural, types, values, variables, functions, operations, thread_of, synchronisation};
 ghost use Rattle.class_meaning.specs.Classes.{print, println};
 ghost use Rattle.text_phases.specs.Built.{unbuilt_in_expr, unbuilt_if_given, unbuilt_in_stmt, unbuilt_in_function, unbuilt_in_variable, unbuilt_in_operation, unbuilt_in_superclasses, unbuilt_in_spec};
 ghost use Rattle.text_phases.specs.Phases.{checks_fault, main_checks_fault};
-ghost use Rattle.text_phases.specs.Worked.{at, name, class_name, n, op, one, truth, use_of, sign_between, applied, selected, new_of, an_argument, call_of_new, a_bind, type_at, record_at, listed, in_block, set_to, call_to, current_call, gives, starting, chosen, another_branch, counted, nat_type, a_variable, an_operation, a_type, type_where, a_value, a_function, a_class, spec_of, spec_of_two, spec_below, spec_with, spec_over};
+ghost use Rattle.text_phases.specs.Worked.{at, name, class_name, n, op, one, truth, use_of, sign_between, applied, selected, new_of, an_argument, call_of_new, a_bind, type_at, record_at, listed, in_block, set_to, setting_to, call_to, current_call, gives, a_local, chosen, another_branch, counted, nat_type, a_variable, an_operation, a_type, type_where, a_value, a_function, a_class, spec_of, spec_of_two, spec_below, spec_with, spec_over};
 
 /// Expressions: names, what is called, selected and made.
 pub fn built_expressions()
@@ -85,14 +85,12 @@ pub fn built_bindings()
 pub fn built_statements()
     ensures skip { unbuilt_in_stmt (skips (at 1)) ≡ None }
     ensures error { unbuilt_in_stmt (errs (at 1)) ≡ None }
-    ensures step { unbuilt_in_stmt (assign (variable n (element_at (one 3) (at 2) ∷ []) (at 1)) (current_time (at 8)) (at 1)) ≡ Some (at 2) }
-    ensures other_class { unbuilt_in_stmt (assign (variable_of_class class_name n (at 3) [] (at 1)) (one 8) (at 1)) ≡ Some (at 1) }
     ensures value { unbuilt_in_stmt (set_to n (current_time (at 6)) 1) ≡ Some (at 6) }
     ensures argument { unbuilt_in_stmt (call (applied (use_of op 1) (one_expr (current_time (at 4)) no_exprs) 3) (at 1)) ≡ Some (at 4) }
     ensures head { unbuilt_in_stmt (call (applied (selected (self_object (at 1)) op 5) no_exprs 8) (at 1)) ≡ Some (at 1) }
     ensures on_another { unbuilt_in_stmt (call (applied (selected (use_of n 1) op 2) (an_argument 6) 5) (at 1)) ≡ None }
     ensures twice { unbuilt_in_stmt (call (applied (applied (use_of op 1) no_exprs 3) no_exprs 5) (at 1)) ≡ None }
-    ensures nested { unbuilt_in_stmt (in_block (set_to n (truth 7) 2 ∷ in_block (call_to op 11 ∷ starting (use_of n 23) 17 ∷ []) 10 ∷ []) 1) ≡ Some (at 17) }
+    ensures nested { unbuilt_in_stmt (in_block (set_to n (truth 7) 2 ∷ in_block (call_to op 11 ∷ current_call 17 ∷ []) 10 ∷ []) 1) ≡ Some (at 17) }
     ensures no_value { unbuilt_in_stmt (in_block (returns None (at 2) ∷ exits None (at 10) ∷ gives (one 23) 16 ∷ []) 1) ≡ None }
     ensures returned { unbuilt_in_stmt (gives (self_object (at 8)) 1) ≡ Some (at 8) }
     ensures exited { unbuilt_in_stmt (exits (Some (current_time (at 6))) (at 1)) ≡ Some (at 6) }
@@ -113,10 +111,60 @@ pub fn built_statements()
     ensures last_first { unbuilt_in_stmt (always_after (current_call 8) (current_call 30) (at 1)) ≡ Some (at 8) }
     ensures after_body { unbuilt_in_stmt (always_after (skips (at 8)) (current_call 30) (at 1)) ≡ Some (at 30) }
     ensures parallel { unbuilt_in_stmt (in_parallel (listed (skips (at 4) ∷ current_call 10 ∷ [])) (at 1)) ≡ Some (at 10) }
-    ensures chosen_by { unbuilt_in_stmt (cases_then (one 7) no_stmt_cases (given_stmt (skips (at 20))) (at 1)) ≡ Some (at 1) }
-    ensures all_of { unbuilt_in_stmt (for_set (bound n (at 9)) (use_of n 18) (skips (at 30)) (at 1)) ≡ Some (at 1) }
-    ensures items_of { unbuilt_in_stmt (for_sequence (bound n (at 5)) (use_of n 10) (skips (at 30)) (at 1)) ≡ Some (at 1) }
-    ensures trapped { unbuilt_in_stmt (trap_exit (bound n (at 6)) (skips (at 13)) (errs (at 21)) (at 1)) ≡ Some (at 1) }
+    ensures started { unbuilt_in_stmt (start_thread (self_object (at 7)) (at 1)) ≡ Some (at 7) }
+    ensures all_started { unbuilt_in_stmt (start_threads (use_of n 11) (at 1)) ≡ None }
+{}
+
+/// Assignments, to whole variables and into them, one or several.
+pub fn built_assignments()
+    ensures step { unbuilt_in_stmt (assign (variable n (element_at (one 3) (at 2) ∷ []) (at 1)) (current_time (at 8)) (at 1)) ≡ Some (at 8) }
+    ensures index { unbuilt_in_stmt (assign (variable n (field_of op (at 3) (at 2) ∷ element_at (current_time (at 7)) (at 6) ∷ []) (at 1)) (self_object (at 15)) (at 1)) ≡ Some (at 7) }
+    ensures second_index { unbuilt_in_stmt (assign (variable n (element_at (one 3) (at 2) ∷ element_at (self_object (at 6)) (at 5) ∷ []) (at 1)) (current_time (at 15)) (at 1)) ≡ Some (at 6) }
+    ensures field { unbuilt_in_stmt (assign (variable n (field_of op (at 3) (at 2) ∷ []) (at 1)) (one 8) (at 1)) ≡ None }
+    ensures of_class { unbuilt_in_stmt (assign (variable_of_class class_name n (at 3) (element_at (one 5) (at 4) ∷ []) (at 1)) (one 11) (at 1)) ≡ None }
+    ensures of_io { unbuilt_in_stmt (assign (variable_of_class io n (at 4) (element_at (current_time (at 6)) (at 5) ∷ []) (at 1)) (one 15) (at 1)) ≡ Some (at 1) }
+    ensures together { unbuilt_in_stmt (assign_together (setting_to n (one 13) 8 ∷ setting_to op (current_time (at 21)) 16 ∷ []) (at 1)) ≡ Some (at 21) }
+    ensures target_first { unbuilt_in_stmt (assign_together (record { target = variable n (element_at (self_object (at 10)) (at 9) ∷ []) (at 8); value = current_time (at 19) } ∷ []) (at 1))
+        ≡ Some (at 10) }
+    ensures none_of_two { unbuilt_in_stmt (assign_together (setting_to n (one 13) 8 ∷ setting_to op (one 21) 16 ∷ []) (at 1)) ≡ None }
+{}
+
+/// Blocks with local variables, and statements that bind names or choose.
+pub fn built_blocks()
+    ensures initial { unbuilt_in_stmt (block (record { locals = a_local n (Some (current_time (at 15))) 6 ∷ []; place = at 2 } ∷ []) (listed (current_call 30 ∷ [])) (at 1)) ≡ Some (at 15) }
+    ensures second_local { unbuilt_in_stmt (block (record { locals = a_local n None 6 ∷ a_local op (Some (self_object (at 25))) 16 ∷ []; place = at 2 } ∷ []) (listed (skips (at 40) ∷ [])) (at 1)) ≡ Some (at 25) }
+    ensures second_word { unbuilt_in_stmt (block (record { locals = a_local n None 6 ∷ []; place = at 2 } ∷ record { locals = a_local op (Some (self_object (at 25))) 20 ∷ []; place = at 16 } ∷ []) (listed (current_call 40 ∷ [])) (at 1)) ≡ Some (at 25) }
+    ensures behind_locals { unbuilt_in_stmt (block (record { locals = a_local n (Some (one 15)) 6 ∷ []; place = at 2 } ∷ []) (listed (skips (at 30) ∷ current_call 40 ∷ [])) (at 1)) ≡ Some (at 40) }
+    ensures defined { unbuilt_in_stmt (let_then (one_defined (record_at 5) (Some nat_type) (current_time (at 30)) no_defined) (current_call 40) (at 1)) ≡ Some (at 11) }
+    ensures defined_value { unbuilt_in_stmt (let_then (one_defined (bound n (at 5)) None (one 9) (one_defined (bound op (at 12)) None (self_object (at 16)) no_defined)) (current_call 40) (at 1)) ≡ Some (at 16) }
+    ensures let_body { unbuilt_in_stmt (let_then (one_defined (bound n (at 5)) None (one 9) no_defined) (current_call 40) (at 1)) ≡ Some (at 40) }
+    ensures choice { unbuilt_in_stmt (let_be_then (bind_in (one_pattern (record_at 5) no_patterns) (current_time (at 25))) None (current_call 40) (at 1)) ≡ Some (at 11) }
+    ensures choice_condition { unbuilt_in_stmt (let_be_then (bind_in (one_pattern (bound n (at 5)) no_patterns) (use_of op 14)) (Some (self_object (at 23))) (current_call 40) (at 1)) ≡ Some (at 23) }
+    ensures choice_body { unbuilt_in_stmt (let_be_then (bind_in (one_pattern (bound n (at 5)) no_patterns) (use_of op 14)) None (skips (at 40)) (at 1)) ≡ None }
+    ensures def_value { unbuilt_in_stmt (def_then (bound n (at 5)) (self_object (at 9)) (current_call 40) (at 1)) ≡ Some (at 9) }
+    ensures def_pattern { unbuilt_in_stmt (def_then (record_at 5) (self_object (at 25)) (current_call 40) (at 1)) ≡ Some (at 11) }
+    ensures subject { unbuilt_in_stmt (cases_then (current_time (at 7)) (one_stmt_case (one_pattern (record_at 10) no_patterns) (current_call 30) no_stmt_cases) no_stmt (at 1)) ≡ Some (at 7) }
+    ensures alternative { unbuilt_in_stmt (cases_then (one 7) (one_stmt_case (one_pattern (bound n (at 10)) (one_pattern (record_at 13) no_patterns)) (current_call 30) no_stmt_cases) no_stmt (at 1)) ≡ Some (at 19) }
+    ensures second_case { unbuilt_in_stmt (cases_then (one 7) (one_stmt_case (one_pattern (bound n (at 10)) no_patterns) (skips (at 15)) (one_stmt_case (one_pattern (bound n (at 21)) no_patterns) (current_call 26) no_stmt_cases)) (given_stmt (current_call 50)) (at 1))
+        ≡ Some (at 26) }
+    ensures others { unbuilt_in_stmt (cases_then (one 7) no_stmt_cases (given_stmt (current_call 20)) (at 1)) ≡ Some (at 20) }
+{}
+
+/// Loops over sets and sequences, and handlers of exits.
+pub fn built_handlers()
+    ensures all_of { unbuilt_in_stmt (for_set (bound n (at 9)) (use_of n 18) (skips (at 30)) (at 1)) ≡ None }
+    ensures all_of_pattern { unbuilt_in_stmt (for_set (record_at 9) (current_time (at 28)) (current_call 40) (at 1)) ≡ Some (at 15) }
+    ensures set { unbuilt_in_stmt (for_set (bound n (at 9)) (current_time (at 18)) (current_call 40) (at 1)) ≡ Some (at 18) }
+    ensures items_of { unbuilt_in_stmt (for_sequence (bound n (at 5)) (use_of n 10) (skips (at 30)) (at 1)) ≡ None }
+    ensures items { unbuilt_in_stmt (for_sequence (bound n (at 5)) (self_object (at 10)) (current_call 40) (at 1)) ≡ Some (at 10) }
+    ensures for_each { unbuilt_in_stmt (for_sequence (bound n (at 5)) (use_of n 10) (current_call 40) (at 1)) ≡ Some (at 40) }
+    ensures trapped { unbuilt_in_stmt (trap_exit (bound n (at 6)) (skips (at 13)) (errs (at 21)) (at 1)) ≡ None }
+    ensures trapped_pattern { unbuilt_in_stmt (trap_exit (record_at 6) (current_call 25) (current_call 40) (at 1)) ≡ Some (at 12) }
+    ensures handler { unbuilt_in_stmt (trap_exit (bound n (at 6)) (current_call 25) (current_call 40) (at 1)) ≡ Some (at 25) }
+    ensures trap_body { unbuilt_in_stmt (trap_exit (bound n (at 6)) (skips (at 25)) (current_call 40) (at 1)) ≡ Some (at 40) }
+    ensures first_handler { unbuilt_in_stmt (trap_exits (one_handler (record_at 7) (current_call 25) no_handlers) (current_call 50) (at 1)) ≡ Some (at 13) }
+    ensures second_handler { unbuilt_in_stmt (trap_exits (one_handler (bound n (at 7)) (skips (at 13)) (one_handler (bound n (at 20)) (current_call 26) no_handlers)) (current_call 50) (at 1)) ≡ Some (at 26) }
+    ensures tixe_body { unbuilt_in_stmt (trap_exits (one_handler (bound n (at 7)) (skips (at 13)) no_handlers) (current_call 50) (at 1)) ≡ Some (at 50) }
 {}
 
 /// Operations.
@@ -209,14 +257,14 @@ pub fn refused_in_turn()
     ensures table_first { checks_fault (spec_of (operations (an_operation op None (call_to n 50) 30
         ∷ an_operation op None (call_to op 90) 60 ∷ []) (at 9) ∷ [])) ≡ Some (fault_at Duplicate (at 67)) }
     ensures target { checks_fault (spec_over None (set_to op (use_of class_name 87) 82)) ≡ Some (fault_at UnknownName (at 82)) }
-    ensures not_built { checks_fault (spec_over None (in_block (starting (new_of no_exprs 89) 83 ∷ []) 82)) ≡ None }
+    ensures not_built { checks_fault (spec_over None (in_block (set_to n (current_time (at 88)) 83 ∷ []) 82)) ≡ None }
 {}
 
 /// What refuses an expression first: its checks, and then what is not built, of the specification before the expression.
 #[tactic(auto, unfolding(crate::specs::Phases::main_checks_fault, class_checks::specs::Expressions::check, class_checks::specs::Expressions::listed, class_checks::specs::Expressions::pairs_in, class_checks::specs::Expressions::changed, class_checks::specs::Expressions::applied, class_checks::specs::Expressions::where_true, class_checks::specs::Expressions::bound_by, class_checks::specs::Expressions::one_bound, class_checks::specs::Expressions::defined_in, class_checks::specs::Expressions::branches, class_checks::specs::Expressions::others_in, class_checks::specs::Expressions::cases_in, class_checks::specs::Expressions::givens, class_checks::specs::Expressions::givens_each, class_checks::specs::Expressions::givens_maplets, class_checks::specs::Results::after))]
 pub fn refused_behind()
-    ensures unknown { main_checks_fault (spec_over None (starting (new_of no_exprs 88) 82)) (sign_between (one 1) Plus 3 (use_of n 5)) ≡ Some (fault_at UnknownName (at 5)) }
-    ensures not_built { main_checks_fault (spec_over None (starting (new_of no_exprs 88) 82)) (sign_between (one 1) Minus 3 (one 5)) ≡ Some (fault_at LeftOut (at 82)) }
+    ensures unknown { main_checks_fault (spec_over None (current_call 82)) (sign_between (one 1) Plus 3 (use_of n 5)) ≡ Some (fault_at UnknownName (at 5)) }
+    ensures not_built { main_checks_fault (spec_over None (current_call 82)) (sign_between (one 1) Minus 3 (one 5)) ≡ Some (fault_at LeftOut (at 82)) }
     ensures expression { main_checks_fault (spec_over None (call_to op 82)) (sign_between (one 1) Minus 3 (current_time (at 5))) ≡ Some (fault_at LeftOut (at 5)) }
     ensures sum { main_checks_fault (spec_over None (call_to op 82)) (sign_between (one 1) Plus 3 (one 5)) ≡ None }
     ensures called { main_checks_fault (spec_over None (call_to op 82)) (call_of_new no_exprs) ≡ None }

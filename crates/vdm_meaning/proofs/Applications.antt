@@ -19,8 +19,8 @@ use Rattle.node_meaning.specs.Names.{function_in, operation_in, operation_reache
 use Rattle.node_meaning.specs.Records.{field_value}
 use Rattle.node_meaning.specs.Strict.{collected, make, two_operands}
 use Rattle.node_meaning.specs.Expressions.{application, applied_or_called, arguments_of, called_on, called_or_looked_up, called_through, called_with, created_with, field_applied, looked_up, looked_up_in, name_applied, no_such_call, qualified_applied}
-use Rattle.node_meaning.specs.Calls.{given, Wanted}
-use Rattle.vdm_meaning.specs.Main.{of_thread}
+use Rattle.node_meaning.specs.Wanted.{given, Wanted}
+use Rattle.stmt_meaning.specs.Questions.{of_thread}
 use Rattle.vdm_meaning.proofs.Rules.{HasObject, IsSafe}
 use Rattle.vdm_meaning.proofs.Parts.{IsAt, at-among, may-fail, safe-evaluated, safe-value, safe-with_value}
 use Rattle.vdm_meaning.proofs.Calls.{safe-given}
@@ -36,13 +36,13 @@ module _ (spec : SpecTree) (first now : List Entry) (here : Here) (place : Place
 
   safe-called_with : (arguments : ExprTrees) (me : ℕ) (own : Name) (op : OpRef) (wanted : Wanted) → object_part me now ≢ [] → IsSafe spec first now (called_with (of_thread spec) arguments me own op place wanted locals)
   safe-called_with no_exprs me own op wanted there =
-      safe-asked spec first now here locals (calls me own op []) place (given wanted place) is_at there (λ n later flow at_later known.
-      safe-given spec n wanted place flow at_later known)
+      safe-asked spec first now here locals (calls me own op []) place (given wanted place) is_at there (λ later flow at_later known.
+      safe-given spec wanted place flow at_later known)
   safe-called_with (one_expr argument arguments) me own op wanted there = may-fail spec Undefined place is_at.may
 
   safe-no_such_call : (arguments : ExprTrees) → IsSafe spec first now (collected here place arguments [] (no_such_call place) locals)
   safe-no_such_call arguments =
-      safe-collected spec (Some 3) first now here place arguments [] (no_such_call place) locals is_at tt (λ later vs after w at_later known. may-fail spec TypeFault place at_later.may)
+      safe-collected spec first now here place arguments [] (no_such_call place) locals is_at tt (λ later vs after w at_later known. may-fail spec TypeFault place at_later.may)
 
   safe-called_on : (arguments : ExprTrees) (me : ℕ) (own : Name) (op : Option OpRef) (wanted : Wanted) → object_part me now ≢ [] → IsSafe spec first now (called_on (of_thread spec) here arguments me own op place wanted locals)
   safe-called_on arguments me own None wanted there = safe-no_such_call arguments
@@ -50,7 +50,7 @@ module _ (spec : SpecTree) (first now : List Entry) (here : Here) (place : Place
 
   safe-looked_up_in : (arguments : ExprTrees) (v : ValueTree) → IsKnown now v → IsSafe spec first now (looked_up_in here arguments place v locals)
   safe-looked_up_in (one_expr argument no_exprs) v known =
-      safe-collected spec (Some 3) first now here place (one_expr argument no_exprs) (v ∷ []) (make (two_operands LookUp) place) locals is_at (known, tt) (λ later vs after w at_later also.
+      safe-collected spec first now here place (one_expr argument no_exprs) (v ∷ []) (make (two_operands LookUp) place) locals is_at (known, tt) (λ later vs after w at_later also.
       safe-make spec (two_operands LookUp) place vs at_later also)
   safe-looked_up_in _ v known = may-fail spec TypeFault place is_at.may
 
@@ -85,8 +85,8 @@ module _ (spec : SpecTree) (first now : List Entry) (here : Here) (place : Place
 
   pub safe-created_with : (arguments : ExprTrees) (class : Name) → IsSafe spec first now (created_with (of_thread spec) arguments class place locals)
   safe-created_with no_exprs class =
-      safe-asked spec first now here locals (creates class []) place (with_value place value) is_at tt (λ n later flow at_later known.
-      safe-with_value spec n place value flow at_later known (λ v after k l. safe-value spec n v (at-among at_later after l) k))
+      safe-asked spec first now here locals (creates class []) place (with_value place value) is_at tt (λ later flow at_later known.
+      safe-with_value spec place value flow at_later known (λ v after k l. safe-value spec v (at-among at_later after l) k))
   safe-created_with (one_expr argument arguments) class = may-fail spec Undefined place is_at.may
 
 pub safe-application : (spec : SpecTree) (first now : List Entry) (here : Here) (head : ExprTree) (arguments : ExprTrees) (place : Place) (wanted : Wanted) (locals : Locals) → IsAt first now here locals → IsSafe spec first now (application (of_thread spec) here head arguments place wanted locals)
@@ -95,6 +95,6 @@ safe-application spec first now here (named name name_place) arguments place wan
 safe-application spec first now here (qualified class name name_place class_place) arguments place wanted locals is_at =
     safe-qualified_applied spec first now here place locals is_at (qualified class name name_place class_place) class name arguments wanted
 safe-application spec first now here (select target name name_place dot) arguments place wanted locals is_at =
-    safe-evaluated spec (Some 3) first now here locals target place (called_through (of_thread spec) here name arguments dot place wanted) is_at (λ later v after w at_later known.
+    safe-evaluated spec first now here locals target place (called_through (of_thread spec) here name arguments dot place wanted) is_at (λ later v after w at_later known.
     safe-called_through spec first later here place after at_later name arguments dot wanted v known)
 safe-application spec first now here head arguments place wanted locals is_at = safe-looked_up spec first now here place locals is_at head arguments

@@ -1,5 +1,5 @@
--- What main asks behind a run it may ask: it may be answered, it is one of few, and the run is not finished.
-use Rattle.std.proofs.Common.{◌≡◌, ◌⊎◌, inl, inr, ℕ, suc, ◌+◌, ◌*◌, ◌≤◌, List, [], ◌∷◌, ◌++◌, length, Some, None, refl, sym, ap, ◌∙◌, subst, append-nil, arith}
+-- What main asks behind a run it may ask: it may be answered, and the run is not finished.
+use Rattle.std.proofs.Common.{◌≡◌, ◌⊎◌, inl, inr, ℕ, List, [], ◌∷◌, ◌++◌, None, refl, sym, ap, ◌∙◌, subst, append-nil}
 use Rattle.abstract_syntax.specs.Classes.{SpecTree}
 use Rattle.abstract_syntax.specs.Expressions.{ExprTree}
 use Rattle.run_journal.specs.declared.answer.Answer.{Answer}
@@ -9,7 +9,6 @@ use Rattle.run_journal.specs.declared.question.Question.TheVariants.{Fail}
 use Rattle.plans.specs.Plans.{Outcome, gives, faults, needs}
 use Rattle.plans.specs.Steps.{Step, answers, last, Failed, MayHaveAsked}
 use Rattle.plans.proofs.Playing.{answers-behind}
-use Rattle.vdm_legal.specs.ClassObjects.{classes_of}
 use Rattle.vdm_legal.specs.Ready.{IsReady}
 use Rattle.vdm_legal.specs.Finishes.{finish_of}
 use Rattle.vdm_legal.proofs.Journals.{main_answers}
@@ -19,7 +18,7 @@ use Rattle.vdm_meaning.specs.Main.{asks, standing_of, main_code}
 use Rattle.vdm_meaning.specs.Runs.{IsRun}
 use Rattle.vdm_meaning.proofs.Rules.{MayAsk, rules}
 use Rattle.vdm_meaning.proofs.Runs.{run_front}
-use Rattle.vdm_meaning.proofs.RunSteps.{IsCut, IsMainSound, cut, last-steps, length-steps, main_outcome, run-answers, run-sound, steps_of}
+use Rattle.vdm_meaning.proofs.RunSteps.{IsCut, IsMainSound, cut, last-steps, main_outcome, run-answers, run-sound, steps_of}
 
 -- what main asks: what its code needs, or to fail
 abbrev pub IsNeedOrFault : Outcome Flow Query Answer Fault → Question → Type 0
@@ -37,14 +36,6 @@ no-answer : (before rest : List Entry) → answers (steps_of before rest) ≡ []
 no-answer before [] e = refl
 no-answer before (x ∷ rest) e = absurd (cc)
 
--- at most so many questions have an answer: one for each class object, one to end or to fail, and three for each unit
-abbrev pub most_answers : SpecTree → ℕ → ℕ
-most_answers spec units = suc (length (classes_of spec)) + 3 * units
-
-pub record IsAsked (spec : SpecTree) (tree : ExprTree) (units : ℕ) (entries : List Entry) (q : Question) : Type 0 where
-  pub may : MayAsk spec entries q
-  pub few : length entries ≤ most_answers spec units
-
 -- main failed behind some front of the entries; `left` are the answers behind it
 pub record HasFailed (spec : SpecTree) (tree : ExprTree) (units : ℕ) (entries : List Entry) (f : Fault) (left : List Answer) : Type 0 where
   pub front : List Entry
@@ -53,20 +44,16 @@ pub record HasFailed (spec : SpecTree) (tree : ExprTree) (units : ℕ) (entries 
   pub behind : answers (steps_of front rest) ≡ left
   pub there : main_outcome spec tree units (main_answers front) ≡ faults f []
   pub may : MayAsk spec front (Fail f.fault f.exit f.place)
-  pub few : length front ≤ most_answers spec units
 
 module _ (spec : SpecTree) (tree : ExprTree) (units : ℕ) where
   module _ (entries : List Entry) (h : IsRun spec tree units entries) where
-    asks_for : (q : Question) → main_outcome spec tree units (main_answers entries) ≡ needs (noted q) → IsAsked spec tree units entries q
+    asks_for : (q : Question) → main_outcome spec tree units (main_answers entries) ≡ needs (noted q) → MayAsk spec entries q
     asks_for q e =
         let sound = subst (IsMainSound spec tree units entries) e (run-sound spec tree units entries h) in
-        record {
-          may = subst (λ xs. MayAsk spec xs q) (last-steps [] entries) sound.0;
-          few = omega (arith, sound.1, length-steps [] entries);
-        }
+        subst (λ xs. MayAsk spec xs q) (last-steps [] entries) sound.0
 
     module _ (f : Fault) (left : List Answer) (e : main_outcome spec tree units (main_answers entries) ≡ faults f left) where
-      sound-failed : Failed (rules spec) (MayHaveAsked (Some 3) (Some (suc (length (classes_of spec)))) units) [] (steps_of [] entries) (main_outcome spec tree units) f
+      sound-failed : Failed (rules spec) (MayHaveAsked None None units) [] (steps_of [] entries) (main_outcome spec tree units) f
       sound-failed = subst (IsMainSound spec tree units entries) e (run-sound spec tree units entries h)
 
       left-answers : (taken more : List (Step Answer (List Entry))) → steps_of [] entries ≡ taken ++ more → main_outcome spec tree units (answers taken ++ answers more) ≡ faults f (answers more) → answers more ≡ left
@@ -77,12 +64,11 @@ module _ (spec : SpecTree) (tree : ExprTree) (units : ℕ) where
           let is : faults f (answers more) ≡ faults f left = sym known ∙ whole in
           cc
 
-      has_failed-by : (taken more : List (Step Answer (List Entry))) → ((bs : List Answer) → main_outcome spec tree units (answers taken ++ bs) ≡ faults f bs) → answers more ≡ left → MayAsk spec (last [] taken) (Fail f.fault f.exit f.place) → length taken ≤ most_answers spec units → IsCut [] entries taken more → HasFailed spec tree units entries f left
-      has_failed-by taken more reached behind may few parts =
+      has_failed-by : (taken more : List (Step Answer (List Entry))) → ((bs : List Answer) → main_outcome spec tree units (answers taken ++ bs) ≡ faults f bs) → answers more ≡ left → MayAsk spec (last [] taken) (Fail f.fault f.exit f.place) → IsCut [] entries taken more → HasFailed spec tree units entries f left
+      has_failed-by taken more reached behind may parts =
           let run_then : IsRun spec tree units parts.front = run_front spec tree units parts.front parts.rest (subst (IsRun spec tree units) parts.all h) in
           let same : main_answers parts.front ≡ answers taken = sym (run-answers spec tree units parts.front run_then) ∙ ap answers (sym parts.first) in
           let none : main_outcome spec tree units (answers taken) ≡ faults f [] = ap (main_outcome spec tree units) (sym (append-nil (answers taken))) ∙ reached [] in
-          let count : length taken ≡ length parts.front = ap length parts.first ∙ length-steps [] parts.front in
           record {
             front = parts.front;
             rest = parts.rest;
@@ -90,30 +76,29 @@ module _ (spec : SpecTree) (tree : ExprTree) (units : ℕ) where
             behind = ap answers (sym parts.behind) ∙ behind;
             there = ap (main_outcome spec tree units) same ∙ none;
             may = subst (λ xs. MayAsk spec xs (Fail f.fault f.exit f.place)) (ap (last []) parts.first ∙ last-steps [] parts.front) may;
-            few = omega (arith, few, count);
           }
 
       pub has_failed : HasFailed spec tree units entries f left
       has_failed =
           let there = sound-failed in
           has_failed-by there.by.taken there.by.more there.by.reached (left-answers there.by.taken there.by.more there.by.all (there.by.reached (answers there.by.more)))
-          there.fails (omega (arith, there.few)) (cut [] entries there.by.taken there.by.more there.by.all)
+          there.fails (cut [] entries there.by.taken there.by.more there.by.all)
 
-    fails : (f : Fault) → main_outcome spec tree units (main_answers entries) ≡ faults f [] → IsAsked spec tree units entries (Fail f.fault f.exit f.place)
+    fails : (f : Fault) → main_outcome spec tree units (main_answers entries) ≡ faults f [] → MayAsk spec entries (Fail f.fault f.exit f.place)
     fails f e =
         let there = has_failed f [] e in
         let whole : there.front ≡ entries = sym (there.all ∙ ap (λ xs. there.front ++ xs) (no-answer there.front there.rest there.behind) ∙ append-nil there.front) in
-        subst (λ xs. IsAsked spec tree units xs (Fail f.fault f.exit f.place)) whole (record { may = there.may; few = there.few })
+        subst (λ xs. MayAsk spec xs (Fail f.fault f.exit f.place)) whole there.may
 
-    pub asked : (q : Question) → main_code spec tree units (main_answers entries) ≡ asks q → IsAsked spec tree units entries q
+    pub asked : (q : Question) → main_code spec tree units (main_answers entries) ≡ asks q → MayAsk spec entries q
     asked q e =
         elim (asked-case (main_outcome spec tree units (main_answers entries)) q e) [
           | inl need ↦ asks_for q need
-          | inr fault ↦ subst (IsAsked spec tree units entries) (sym fault.2) (fails fault.0 fault.1)
+          | inr fault ↦ subst (MayAsk spec entries) (sym fault.2) (fails fault.0 fault.1)
         ]
 
   pub asked-ready : (before : List Entry) (q : Question) → IsRun spec tree units before → main_code spec tree units (main_answers before) ≡ asks q → IsReady spec before q
-  asked-ready before q h e = (asked before h q e).may.ready
+  asked-ready before q h e = (asked before h q e).ready
 
   pub asked-unfinished : (before : List Entry) (q : Question) → IsRun spec tree units before → main_code spec tree units (main_answers before) ≡ asks q → finish_of before ≡ None
-  asked-unfinished before q h e = (asked before h q e).may.sane.unfinished
+  asked-unfinished before q h e = (asked before h q e).sane.unfinished

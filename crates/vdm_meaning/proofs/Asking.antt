@@ -1,5 +1,5 @@
 -- Plans that ask: what has to hold of the question, and of what follows its answer.
-use Rattle.std.proofs.Common.{◌≡◌, ◌++◌, ◌∷◌, [], List, Some, subst, suc, sym, ℕ}
+use Rattle.std.proofs.Common.{◌≡◌, ◌++◌, ◌∷◌, [], List, subst, sym, ℕ}
 use Rattle.vdm_kinds.specs.declared.member.VarRef.{VarRef}
 use Rattle.vdm_kinds.specs.declared.name.Name.{Name}
 use Rattle.vdm_values.specs.declared.slot.Slot.{Slot}
@@ -14,26 +14,25 @@ use Rattle.run_journal.specs.Parts.{object_part}
 use Rattle.run_journal.specs.declared.answer.Answer.TheVariants.{Done, Object, Slot as Holds}
 use Rattle.run_journal.specs.declared.deed.Deed.TheVariants as deed
 use Rattle.plans.specs.Plans.{ask}
-use Rattle.plans.specs.Steps.{Safe, last}
 use Rattle.vdm_legal.specs.State.{state_of}
 use Rattle.vdm_legal.proofs.Taken.{IsEntryFor}
 use Rattle.node_meaning.specs.Tasks.{Code, Flow, noted}
-use Rattle.vdm_meaning.proofs.Rules.{MayAsk, rules}
+use Rattle.vdm_meaning.proofs.Rules.{Keeps, MayAsk}
 
-module _ (spec : SpecTree) (left : List Entry → Flow → Type 0) (first before : List Entry) (n : ℕ) (further : Answer → Code) where
+module _ (spec : SpecTree) (left : List Entry → Flow → Type 0) (first before : List Entry) (further : Answer → Code) where
   -- what follows a known answer, behind its known entry
-  safe-behind : (a b : Answer) (after : List Entry) (taken e : Entry) → a ≡ b → taken ≡ e → after ≡ before ++ taken ∷ [] → Safe (rules spec) left (Some n) first (before ++ e ∷ []) (further b) → Safe (rules spec) left (Some n) first after (further a)
+  safe-behind : (a b : Answer) (after : List Entry) (taken e : Entry) → a ≡ b → taken ≡ e → after ≡ before ++ taken ∷ [] → Keeps spec left first (before ++ e ∷ []) (further b) → Keeps spec left first after (further a)
   safe-behind a b after taken e same is last h =
-      subst (λ k. Safe (rules spec) left (Some n) first k (further a)) (sym last)
-      (subst (λ x. Safe (rules spec) left (Some n) first (before ++ x ∷ []) (further a)) (sym is)
-      (subst (λ c. Safe (rules spec) left (Some n) first (before ++ e ∷ []) (further c)) (sym same) h))
+      subst (λ k. Keeps spec left first k (further a)) (sym last)
+      (subst (λ x. Keeps spec left first (before ++ x ∷ []) (further a)) (sym is)
+      (subst (λ c. Keeps spec left first (before ++ e ∷ []) (further c)) (sym same) h))
 
   -- a question with one answer and one entry alone
-  pub safe-ask : (q : Question) (e : Entry) → ((a : Answer) (taken : Entry) → IsEntryFor spec before q a taken → (a ≡ Done) × (taken ≡ e)) → MayAsk spec before q → Safe (rules spec) left (Some n) first (before ++ e ∷ []) (further Done) → Safe (rules spec) left (Some (suc n)) first before (ask (noted q) further)
+  pub safe-ask : (q : Question) (e : Entry) → ((a : Answer) (taken : Entry) → IsEntryFor spec before q a taken → (a ≡ Done) × (taken ≡ e)) → MayAsk spec before q → Keeps spec left first (before ++ e ∷ []) (further Done) → Keeps spec left first before (ask (noted q) further)
   safe-ask q e one may h = (may, λ a after t. let is = one a t.taken t.is in safe-behind a Done after t.taken e is.0 is.1 t.last h)
 
-  pub safe-New : (class : Name) (slots : List Slot) → MayAsk spec before (New class slots) → ((o : ℕ) → Safe (rules spec) left (Some n) first (before ++ entry Main o (deed.New class slots) ∷ []) (further (Object o))) → Safe (rules spec) left (Some (suc n)) first before (ask (noted (New class slots)) further)
+  pub safe-New : (class : Name) (slots : List Slot) → MayAsk spec before (New class slots) → ((o : ℕ) → Keeps spec left first (before ++ entry Main o (deed.New class slots) ∷ []) (further (Object o))) → Keeps spec left first before (ask (noted (New class slots)) further)
   safe-New class slots may h = (may, λ a after t. safe-behind a (Object t.is.0) after t.taken (entry Main t.is.0 (deed.New class slots)) t.is.1 t.is.3 t.last (h t.is.0))
 
-  pub safe-Read : (o : ℕ) (var : VarRef) → MayAsk spec before (Read o var) → ((slot : Slot) → state_of spec (object_part o before) var ≡ slot → Safe (rules spec) left (Some n) first (before ++ entry Main o (deed.Read var slot) ∷ []) (further (Holds slot))) → Safe (rules spec) left (Some (suc n)) first before (ask (noted (Read o var)) further)
+  pub safe-Read : (o : ℕ) (var : VarRef) → MayAsk spec before (Read o var) → ((slot : Slot) → state_of spec (object_part o before) var ≡ slot → Keeps spec left first (before ++ entry Main o (deed.Read var slot) ∷ []) (further (Holds slot))) → Keeps spec left first before (ask (noted (Read o var)) further)
   safe-Read o var may h = (may, λ a after t. safe-behind a (Holds t.is.0) after t.taken (entry Main o (deed.Read var t.is.0)) t.is.1 t.is.3 t.last (h t.is.0 t.is.2))

@@ -24,25 +24,26 @@ use Rattle.vdm_legal.proofs.Sanity.{IsSane, IsWithin, act-waits, begun-sane, beh
 use Rattle.node_meaning.specs.Envs.{Here, Locals, inside, no_nest}
 use Rattle.node_meaning.specs.Tasks.{Flow, exited, gave, next, noted, returned, with_value}
 use Rattle.node_meaning.specs.Fitting.{fitted}
-use Rattle.node_meaning.specs.Calls.{given_slot, given, finished, finished_with, left_with, ended, begun, activated, requested, called, Wanted, a_value, no_value}
-use Rattle.vdm_meaning.proofs.Rules.{AreKnown, GivesKnown, IsSafe, IsSafeWith, MayLeave, MayRun, rules}
-use Rattle.vdm_meaning.proofs.Parts.{IsAt, at-among, at-later, at-start, locals-on, may-fail, run-behind, safe-finish, safe-value}
+use Rattle.node_meaning.specs.Wanted.{given_slot, given, Wanted, a_value, no_value}
+use Rattle.stmt_meaning.specs.Calls.{finished, finished_with, left_with, ended, begun, activated, requested, called}
+use Rattle.vdm_meaning.proofs.Rules.{AreKnown, GivesKnown, IsSafe, MayLeave, MayRun}
+use Rattle.vdm_meaning.proofs.Parts.{IsAt, at-among, at-later, at-start, locals-on, may-fail, run-behind, safe-bind, safe-finish, safe-value}
 use Rattle.vdm_meaning.proofs.Asking.{safe-ask}
-use Rattle.vdm_meaning.proofs.Fitting.{bind-quiet, safe-fitted}
+use Rattle.vdm_meaning.proofs.Fitting.{safe-fitted}
 
 module _ (spec : SpecTree) where
   -- ---- what is given where the call stands
 
-  safe-given_slot : (n : Option ℕ) {first now : List Entry} {here : Here} {locals : Locals} (wanted : Wanted) (place : Place) (slot : Slot) → IsAt first now here locals → IsKnownSlot now slot → IsSafeWith spec n first now (given_slot wanted place slot locals)
-  safe-given_slot n no_value place slot is_at known = (is_at.within, (is_at.may.sane, (known, is_at.may.known)))
-  safe-given_slot n a_value place (Held v) is_at known = safe-value spec n v is_at known
-  safe-given_slot n a_value place Unset is_at known = may-fail spec NoReturn place is_at.may
+  safe-given_slot : {first now : List Entry} {here : Here} {locals : Locals} (wanted : Wanted) (place : Place) (slot : Slot) → IsAt first now here locals → IsKnownSlot now slot → IsSafe spec first now (given_slot wanted place slot locals)
+  safe-given_slot no_value place slot is_at known = (is_at.within, (is_at.may.sane, (known, is_at.may.known)))
+  safe-given_slot a_value place (Held v) is_at known = safe-value spec v is_at known
+  safe-given_slot a_value place Unset is_at known = may-fail spec NoReturn place is_at.may
 
-  pub safe-given : (n : Option ℕ) {first now : List Entry} {here : Here} {locals : Locals} (wanted : Wanted) (place : Place) (flow : Flow) → IsAt first now here locals → GivesKnown now flow → IsSafeWith spec n first now (given wanted place flow)
-  safe-given n wanted place (gave slot after) is_at known = safe-given_slot n wanted place slot (at-among is_at after known.1) known.0
-  safe-given n wanted place (next after) is_at known = may-fail spec Undefined place is_at.may
-  safe-given n wanted place (returned slot after) is_at known = may-fail spec Undefined place is_at.may
-  safe-given n wanted place (exited v from after) is_at known = (is_at.within, (is_at.may.sane, known))
+  pub safe-given : {first now : List Entry} {here : Here} {locals : Locals} (wanted : Wanted) (place : Place) (flow : Flow) → IsAt first now here locals → GivesKnown now flow → IsSafe spec first now (given wanted place flow)
+  safe-given wanted place (gave slot after) is_at known = safe-given_slot wanted place slot (at-among is_at after known.1) known.0
+  safe-given wanted place (next after) is_at known = may-fail spec Undefined place is_at.may
+  safe-given wanted place (returned slot after) is_at known = may-fail spec Undefined place is_at.may
+  safe-given wanted place (exited v from after) is_at known = (is_at.within, (is_at.may.sane, known))
 
   -- ---- a call on an object that is there
 
@@ -79,25 +80,25 @@ module _ (spec : SpecTree) where
       at-end = at-later is_at (finished-within before me op is_at.may.sane after w) (finished-sane before me op is_at.may.sane after w sane)
 
       -- the call finishes, with what is known behind that
-      safe-end : (flow : Flow) → GivesKnown (behind_finish after me op) flow → IsSafeWith spec (Some 1) first after (ask (noted (Fin me op)) (λ answer. finish flow))
+      safe-end : (flow : Flow) → GivesKnown (behind_finish after me op) flow → IsSafe spec first after (ask (noted (Fin me op)) (λ answer. finish flow))
       safe-end flow known =
-          safe-ask spec MayLeave first after 0 (λ answer. finish flow) (Fin me op) (entry Main me (deed.Fin op)) (λ a taken is. is)
+          safe-ask spec MayLeave first after (λ answer. finish flow) (Fin me op) (entry Main me (deed.Fin op)) (λ a taken is. is)
           (record { ready = (callee-done.me, fin-waits before me op is_at.may.sane after w); sane = sane })
-          (safe-finish spec (Some 0) flow at-end known)
+          (safe-finish spec flow at-end known)
 
       -- what the caller goes on with, once the finish is answered
-      safe-finished : (slot : Slot) (others : Locals) → IsKnownSlot after slot → AreKnown after others → IsSafeWith spec (Some 1) first after (finished me op slot others)
+      safe-finished : (slot : Slot) (others : Locals) → IsKnownSlot after slot → AreKnown after others → IsSafe spec first after (finished me op slot others)
       safe-finished slot others known kept =
           let end = entry Main me (deed.Fin op) ∷ [] in
           safe-end (gave slot others) (slot-on after end (behind_finish after me op) refl slot known, locals-on after end (behind_finish after me op) refl others kept)
 
       -- an exit that left the body
-      safe-exited : (v : ValueTree) (from : Place) → IsKnown after v → IsSafeWith spec (Some 1) first after (ask (noted (Fin me op)) (λ answer. finish (exited v from locals)))
+      safe-exited : (v : ValueTree) (from : Place) → IsKnown after v → IsSafe spec first after (ask (noted (Fin me op)) (λ answer. finish (exited v from locals)))
       safe-exited v from known =
           safe-end (exited v from locals) (known-on after (entry Main me (deed.Fin op) ∷ []) (behind_finish after me op) refl v known, at-end.may.known)
 
     -- behind the test of the result
-    safe-tested : (after : List Entry) → IsWithin (behind_activation before me op) after → IsSane after → (flow : Flow) → GivesKnown after flow → IsSafeWith spec (Some 1) first after (with_value place (finished_with me op) flow)
+    safe-tested : (after : List Entry) → IsWithin (behind_activation before me op) after → IsSane after → (flow : Flow) → GivesKnown after flow → IsSafe spec first after (with_value place (finished_with me op) flow)
     safe-tested after w sane (gave (Held v) others) known = safe-finished after w sane (Held v) others known.0 known.1
     safe-tested after w sane (gave Unset others) known = may-fail spec Undefined place (callee-done after w sane)
     safe-tested after w sane (next others) known = may-fail spec Undefined place (callee-done after w sane)
@@ -105,29 +106,29 @@ module _ (spec : SpecTree) where
     safe-tested after w sane (exited v from others) known = (within-then first before after is_at.within (left-within before me op is_at.may.sane after w), (sane, known))
 
     module _ (after : List Entry) (w : IsWithin (behind_activation before me op) after) (sane : IsSane after) where
-      safe-left_with : (declared : Option TypeTree) (slot : Slot) → IsKnownSlot after slot → IsSafeWith spec (Some 1) first after (left_with spec me op declared place slot locals)
+      safe-left_with : (declared : Option TypeTree) (slot : Slot) → IsKnownSlot after slot → IsSafe spec first after (left_with spec me op declared place slot locals)
       safe-left_with None Unset known = safe-finished after w sane Unset locals tt (caller-done after w sane).known
       safe-left_with None (Held v) known = may-fail spec TypeFault place (callee-done after w sane)
       safe-left_with (Some declared) Unset known = may-fail spec NoReturn place (callee-done after w sane)
       safe-left_with (Some declared) (Held v) known =
-          bind-quiet (rules spec) MayLeave MayLeave (Some 1) after first (with_value place (finished_with me op))
+          safe-bind spec after first (with_value place (finished_with me op))
           (λ later flow x leaves. safe-tested later (within-then (behind_activation before me op) after later w x) leaves.0 flow leaves.1)
           (fitted spec no_nest (Some op.class) declared place v locals) after
-          (safe-fitted spec (Some 0) after after here locals (at-start (caller-done after w sane)) no_nest (Some op.class) place v known declared)
+          (safe-fitted spec after after here locals (at-start (caller-done after w sane)) no_nest (Some op.class) place v known declared)
 
-      safe-ended : (flow : Flow) → GivesKnown after flow → IsSafeWith spec (Some 1) first after (ended spec me op operation.result_type place locals flow)
+      safe-ended : (flow : Flow) → GivesKnown after flow → IsSafe spec first after (ended spec me op operation.result_type place locals flow)
       safe-ended (gave slot inner) known = may-fail spec Undefined place (callee-done after w sane)
       safe-ended (next inner) known = safe-left_with operation.result_type Unset tt
       safe-ended (returned slot inner) known = safe-left_with operation.result_type slot known.0
       safe-ended (exited v from inner) known = safe-exited after w sane v from known.0
 
-    safe-begun : (body : Body StmtTree) → IsSafeWith spec (Some 1) first (behind_activation before me op) (begun spec me own op operation.result_type place locals body)
+    safe-begun : (body : Body StmtTree) → IsSafe spec first (behind_activation before me op) (begun spec me own op operation.result_type place locals body)
     safe-begun (written body) = (callee-begun, λ after flow w leaves. safe-ended after w leaves.0 flow leaves.1)
     safe-begun _ = may-fail spec Undefined place callee-begun
 
-    safe-requested : (answer : Answer) → IsSafeWith spec (Some 2) first (behind_request before me op) (requested spec me own op operation place locals answer)
+    safe-requested : (answer : Answer) → IsSafe spec first (behind_request before me op) (requested spec me own op operation place locals answer)
     safe-requested answer =
-        safe-ask spec MayLeave first (behind_request before me op) 1 (activated spec me own op operation place locals) (Act me op) (entry Main me (deed.Act op)) (λ a taken is. is)
+        safe-ask spec MayLeave first (behind_request before me op) (activated spec me own op operation place locals) (Act me op) (entry Main me (deed.Act op)) (λ a taken is. is)
         (record { ready = (callee-requested.me, act-waits before me op is_at.may.sane); sane = callee-requested.sane })
         (safe-begun operation.body)
 
@@ -135,6 +136,6 @@ module _ (spec : SpecTree) where
   pub safe-called : (first before : List Entry) (here : Here) (locals : Locals) → IsAt first before here locals → (me : ℕ) → object_part me before ≢ [] → (own : Name) (op : OpRef) (operation : Option OperationTree) (place : Place) → IsSafe spec first before (called spec me own op operation place locals)
   safe-called first before here locals is_at me there own op None place = may-fail spec TypeFault place is_at.may
   safe-called first before here locals is_at me there own op (Some operation) place =
-      safe-ask spec MayLeave first before 2 (requested spec me own op operation place locals) (Req me op) (entry Main me (deed.Req op)) (λ a taken is. is)
+      safe-ask spec MayLeave first before (requested spec me own op operation place locals) (Req me op) (entry Main me (deed.Req op)) (λ a taken is. is)
       (record { ready = there; sane = is_at.may.sane })
       (safe-requested first before here locals is_at me there own op operation place Done)

@@ -18,11 +18,11 @@ use Rattle.vdm_legal.proofs.Known.{IsThere}
 use Rattle.node_meaning.specs.Envs.{Here, Locals, local_named, result_name}
 use Rattle.node_meaning.specs.Records.{field_exprs, field_names, record_changed, record_made, record_type}
 use Rattle.node_meaning.specs.Tasks.{evaluated, value_or_fault}
-use Rattle.node_meaning.specs.Calls.{a_value}
+use Rattle.node_meaning.specs.Wanted.{a_value}
 use Rattle.node_meaning.specs.Strict.{Strict, a_component, a_map, a_sequence, a_set, a_subsequence, a_token, a_tuple, maplet_exprs, strict, two_operands}
 use Rattle.node_meaning.specs.Choosing.{Chooser, choosing, collects, for_each, for_one, for_some, takes_first, the_one}
 use Rattle.node_meaning.specs.Expressions.{cases_met, expr_plan, fit_value, selected}
-use Rattle.vdm_meaning.specs.Main.{of_thread}
+use Rattle.stmt_meaning.specs.Questions.{of_thread}
 use Rattle.vdm_meaning.proofs.Rules.{IsSafe}
 use Rattle.vdm_meaning.proofs.Parts.{IsAt, may-fail, safe-become, safe-evaluated, safe-value}
 use Rattle.vdm_meaning.proofs.Strict.{safe-collected, safe-strict, safe-value_or_fault}
@@ -47,8 +47,8 @@ module _ (spec : SpecTree) (first now : List Entry) (here : Here) (locals : Loca
 
   safe-fit : (tree : ExprTree) (t : TypeTree) (place : Place) → IsSafe spec first now (evaluated here locals tree place (fit_value spec here.nest here.scope t place))
   safe-fit tree t place =
-      safe-evaluated spec (Some 3) first now here locals tree place (fit_value spec here.nest here.scope t place) is_at (λ later v after w at_later known.
-      safe-fit_value spec (Some 3) first later here after at_later here.nest here.scope place v known t)
+      safe-evaluated spec first now here locals tree place (fit_value spec here.nest here.scope t place) is_at (λ later v after w at_later known.
+      safe-fit_value spec first later here after at_later here.nest here.scope place v known t)
 
   pub safe-expr : (tree : ExprTree) → IsSafe spec first now (expr_plan (of_thread spec) here locals tree)
   safe-expr (literal tree place) = safe-literal tree place
@@ -62,7 +62,7 @@ module _ (spec : SpecTree) (first now : List Entry) (here : Here) (locals : Loca
   safe-expr (set_enumeration elements place) = safe-strictly a_set place elements
   safe-expr (set_range from to place) = safe-strictly (two_operands Interval) place (one_expr from (one_expr to no_exprs))
   safe-expr (set_comprehension element binds condition place) = safe-chosen place binds (collects a_set (one_expr element no_exprs) condition)
-  safe-expr (empty_map place) = safe-value spec (Some 3) (map_of no_pairs) is_at tt
+  safe-expr (empty_map place) = safe-value spec (map_of no_pairs) is_at tt
   safe-expr (map_enumeration maplets place) = safe-strictly a_map place (maplet_exprs maplets)
   safe-expr (map_comprehension key held binds condition place) = safe-chosen place binds (collects a_map (one_expr key (one_expr held no_exprs)) condition)
   safe-expr (sequence_enumeration items place) = safe-strictly a_sequence place items
@@ -71,10 +71,10 @@ module _ (spec : SpecTree) (first now : List Entry) (here : Here) (locals : Loca
   safe-expr (make_tuple parts place) = safe-strictly a_tuple place parts
   safe-expr (make_token inner place) = safe-strictly a_token place (one_expr inner no_exprs)
   safe-expr (make_record t arguments place) =
-      safe-collected spec (Some 3) first now here place arguments [] (record_made spec here.nest here.scope t place) locals is_at tt (λ later vs after w at_later known.
+      safe-collected spec first now here place arguments [] (record_made spec here.nest here.scope t place) locals is_at tt (λ later vs after w at_later known.
       safe-record_of_type spec first here place later here.nest (record_type spec here.scope t) vs after at_later known)
   safe-expr (modify_record target changes place) =
-      safe-collected spec (Some 3) first now here place (one_expr target (field_exprs changes)) [] (record_changed spec here.nest (field_names changes) place) locals is_at tt (λ later vs after w at_later known.
+      safe-collected spec first now here place (one_expr target (field_exprs changes)) [] (record_changed spec here.nest (field_names changes) place) locals is_at tt (λ later vs after w at_later known.
       safe-record_changed spec first here place later here.nest (field_names changes) vs after at_later known)
   safe-expr (is_of_type tree t place) = safe-fit tree t place
   safe-expr (is_of_named t tree place) = safe-fit tree (named_type t place) place
@@ -82,7 +82,7 @@ module _ (spec : SpecTree) (first now : List Entry) (here : Here) (locals : Loca
   safe-expr (create class class_place arguments place) = safe-created_with spec first now here place locals is_at arguments class
   safe-expr (apply head arguments place) = safe-application spec first now here head arguments place a_value locals is_at
   safe-expr (select target name name_place place) =
-      safe-evaluated spec (Some 3) first now here locals target place (selected (of_thread spec) place name) is_at (λ later v after w at_later known.
+      safe-evaluated spec first now here locals target place (selected (of_thread spec) place name) is_at (λ later v after w at_later known.
       safe-selected spec first later here place after at_later name v known)
   safe-expr (subsequence target from to place) = safe-strictly a_subsequence place (one_expr target (one_expr from (one_expr to no_exprs)))
   safe-expr (select_part target number place) = safe-strictly (a_component number) place (one_expr target no_exprs)
@@ -93,7 +93,7 @@ module _ (spec : SpecTree) (first now : List Entry) (here : Here) (locals : Loca
   safe-expr (if_else condition then_tree elseifs otherwise place) =
       safe-branches spec first here place (one_branch condition then_tree elseifs) now otherwise locals is_at
   safe-expr (cases_of subject alternatives others place) =
-      safe-evaluated spec (Some 3) first now here locals subject place (cases_met spec here place alternatives others (length locals)) is_at (λ later v after w at_later known.
+      safe-evaluated spec first now here locals subject place (cases_met spec here place alternatives others (length locals)) is_at (λ later v after w at_later known.
       safe-cases_met spec first here place alternatives later others (length locals) v after at_later known)
   safe-expr (for_all binds condition place) = safe-chosen place binds (for_each condition)
   safe-expr (exists_some binds condition place) = safe-chosen place binds (for_some condition)

@@ -72,6 +72,22 @@ module _ (spec : SpecTree) (tree : ExprTree) (units : ℕ) where
   never-needs : (entries : List Entry) (need : Need) → IsRun spec tree units entries → main_outcome spec tree units (main_answers entries) ≡ needs (needed need) → ⊥
   never-needs entries need h e = (subst (IsMainSound spec tree units entries) e (run-sound spec tree units entries h)).0
 
+  -- where main needs nothing, an entry behind is the last one
+  pub next-ends : (entries : List Entry) (x : Entry) → IsRun spec tree units (entries ++ x ∷ []) → ((q : Query) → main_outcome spec tree units (main_answers entries) ≡ needs q → ⊥) → finish_of (entries ++ x ∷ []) ≡ None → ⊥
+  next-ends entries x h ends none = by (main_outcome spec tree units (main_answers entries)) refl
+    where
+      front : IsRun spec tree units entries
+      front = run_front spec tree units entries (x ∷ []) h
+
+      parts : (finish_of entries ≡ None) × (finish_of (x ∷ []) ≡ None)
+      parts = undecided-parts entries (x ∷ []) none
+
+      by : (o : Outcome Flow Query Answer Fault) → main_outcome spec tree units (main_answers entries) ≡ o → ⊥
+      by (gives flow left u) e = given-finished entries flow left u front e parts.0
+      by (faults f []) e = failure-next entries x f h e (neither _ _ parts.1).0
+      by (faults f (a ∷ left)) e = failed-finished entries f a left front e parts.0
+      by (needs q) e = ends q e
+
   -- behind an unfinished run main asks
   pub still_asks : (entries : List Entry) → IsRun spec tree units entries → finish_of entries ≡ None → (o : Outcome Flow Query Answer Fault) → main_outcome spec tree units (main_answers entries) ≡ o → (q : Question) × (main_code spec tree units (main_answers entries) ≡ asks q)
   still_asks entries h none (gives flow left u) e = absurd (given-finished entries flow left u h e none)

@@ -1,15 +1,19 @@
 pub mod Applications
 pub mod AskedQuestions
+pub mod Around
 pub mod Asking
+pub mod Blocks
 pub mod Calls
 pub mod Choosing
 pub mod Chosen
+pub mod Ending
 pub mod Expressions
 pub mod Finishing
 pub mod Fitting
 pub mod Flows
 pub mod Functions
 pub mod GoingOn
+pub mod Handlers
 pub mod Loops
 pub mod Main
 pub mod Matching
@@ -24,6 +28,7 @@ pub mod RunSteps
 pub mod Runs
 pub mod Statements
 pub mod Strict
+pub mod Targets
 pub mod TaskPlans
 pub mod TestedValues
 pub mod WorkedCounter

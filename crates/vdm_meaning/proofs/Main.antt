@@ -1,5 +1,5 @@
 -- The code of main keeps the rules of journals, and where it is done the run is finished.
-use Rattle.std.proofs.Common.{◌≡◌, ◌++◌, ◌∷◌, ◌∙◌, ◌≤◌, ◌+◌, [], if◌then◌else◌, List, None, Some, ap, append_assoc, arith, length, length-append, map, refl, suc, sym, ℕ}
+use Rattle.std.proofs.Common.{◌≡◌, ◌++◌, ◌∷◌, ◌∙◌, ◌≤◌, ◌+◌, [], if◌then◌else◌, List, None, Some, ap, append_assoc, arith, length, length-append, map, refl, sym, ℕ}
 use Rattle.std.specs.Prelude.{slice_get}
 use Rattle.std.proofs.lemmas.Bool.{ne_eqb}
 use Rattle.std.proofs.lemmas.List.Elements.{filter-append}
@@ -18,14 +18,13 @@ use Rattle.run_journal.specs.Made.{entry}
 use Rattle.run_journal.specs.Parts.{is_on, object_part}
 use Rattle.run_journal.specs.declared.deed.Deed.TheVariants as deed
 use Rattle.plans.specs.Plans.{ask, finish, part}
-use Rattle.plans.specs.Steps.{Safe}
 use Rattle.vdm_legal.specs.ClassObjects.{classes_of}
 use Rattle.vdm_legal.specs.Finishes.{finish_of}
 use Rattle.vdm_legal.proofs.Sanity.{IsQuiet, IsSane, quiet-sane, quiet-within, sane-start, within-then}
 use Rattle.vdm_legal.proofs.Journals.{undecided-parts}
 use Rattle.node_meaning.specs.Envs.{Locals, outside}
 use Rattle.node_meaning.specs.Tasks.{Code, Flow, exited, gave, next, noted, returned}
-use Rattle.vdm_meaning.proofs.Rules.{MayBegin, MayRun, rules}
+use Rattle.vdm_meaning.proofs.Rules.{Keeps, MayBegin, MayRun}
 use Rattle.vdm_meaning.proofs.Parts.{IsAt, at-later}
 use Rattle.vdm_meaning.proofs.Asking.{safe-ask}
 use Rattle.vdm_meaning.specs.Main.{end_with, ended, whole_expression, make_class_objects, main_plan}
@@ -59,9 +58,9 @@ free-on before object class free n above =
     ∙ ap (λ b. if b then entry Main object (deed.Class class []) ∷ [] else []) (ne_eqb object n (omega arith))
 
 module _ (spec : SpecTree) where
-  -- main's code keeps the rules, with at most n questions of its own
-  abbrev pub IsMainSafe : ℕ → List Entry → Code → Type 0
-  IsMainSafe n before code = Safe (rules spec) LeavesAnEnd (Some n) [] before code
+  -- main's code keeps the rules
+  abbrev pub IsMainSafe : List Entry → Code → Type 0
+  IsMainSafe before code = Keeps spec LeavesAnEnd [] before code
 
   whole-begins : (tree : ExprTree) (before : List Entry) → MayRun before outside [] → MayBegin before (whole_expression tree)
   whole-begins (apply head arguments place) before h = h
@@ -69,9 +68,9 @@ module _ (spec : SpecTree) where
 
   module _ (tree : ExprTree) where
     -- main asks to end: then the run is finished
-    safe-end_with : (before : List Entry) (slot : Slot) (locals others : Locals) → IsAt [] before outside others → IsMainSafe 1 before (end_with slot locals)
+    safe-end_with : (before : List Entry) (slot : Slot) (locals others : Locals) → IsAt [] before outside others → IsMainSafe before (end_with slot locals)
     safe-end_with before slot locals others is_at =
-        safe-ask spec LeavesAnEnd [] before 0 (λ a. finish (gave slot locals)) (End slot) (entry Main 0 (deed.End slot)) (λ a taken is. is)
+        safe-ask spec LeavesAnEnd [] before (λ a. finish (gave slot locals)) (End slot) (entry Main 0 (deed.End slot)) (λ a taken is. is)
         (record { ready = is_at.may.main; sane = is_at.may.sane }) (
           within-then [] before _ is_at.within (quiet-within before 0 (deed.End slot) (end-quiet slot)),
           λ none.
@@ -79,18 +78,18 @@ module _ (spec : SpecTree) where
               cc,
         )
 
-    safe-ended : (before : List Entry) (locals : Locals) (flow : Flow) → IsAt [] before outside locals → IsMainSafe 1 before (ended flow)
+    safe-ended : (before : List Entry) (locals : Locals) (flow : Flow) → IsAt [] before outside locals → IsMainSafe before (ended flow)
     safe-ended before locals (gave slot after) is_at = safe-end_with before slot after locals is_at
     safe-ended before locals (next after) is_at = safe-end_with before Unset after locals is_at
     safe-ended before locals (returned slot after) is_at = safe-end_with before slot after locals is_at
     safe-ended before locals (exited v place after) is_at = record { ready = is_at.may.main; sane = is_at.may.sane }
 
-    safe-class : (n : ℕ) (before : List Entry) (object : ℕ) (class : Name) (further : Answer → Code) → IsSane before → object_part object before ≡ [] → slice_get (classes_of spec) object ≡ Some class → IsMainSafe n (behind_class before object class) (further Done) → IsMainSafe (suc n) before (ask (noted (Class object class [])) further)
-    safe-class n before object class further sane fresh is h =
-        safe-ask spec LeavesAnEnd [] before n further (Class object class []) (entry Main object (deed.Class class [])) (λ a taken is. is)
+    safe-class : (before : List Entry) (object : ℕ) (class : Name) (further : Answer → Code) → IsSane before → object_part object before ≡ [] → slice_get (classes_of spec) object ≡ Some class → IsMainSafe (behind_class before object class) (further Done) → IsMainSafe before (ask (noted (Class object class [])) further)
+    safe-class before object class further sane fresh is h =
+        safe-ask spec LeavesAnEnd [] before further (Class object class []) (entry Main object (deed.Class class [])) (λ a taken is. is)
         (record { ready = (fresh, is); sane = sane }) h
 
-    safe-classes : (before : List Entry) (object : ℕ) (done classes : List Name) → classes_of spec ≡ done ++ classes → object ≡ length done → IsAt [] before outside [] → IsFreeFrom before object → IsMainSafe (suc (length classes)) before (make_class_objects object classes (part (whole_expression tree) ended))
+    safe-classes : (before : List Entry) (object : ℕ) (done classes : List Name) → classes_of spec ≡ done ++ classes → object ≡ length done → IsAt [] before outside [] → IsFreeFrom before object → IsMainSafe before (make_class_objects object classes (part (whole_expression tree) ended))
     safe-classes before object done [] all number is_at free = (
       whole-begins tree before is_at.may,
       λ later flow within leaves. safe-ended later [] flow (at-later is_at within leaves.0),
@@ -98,7 +97,7 @@ module _ (spec : SpecTree) where
     safe-classes before object done (class ∷ classes) all number is_at free =
         let is : slice_get (classes_of spec) object ≡ Some class = ap (slice_get (classes_of spec)) number ∙ ap (λ cs. slice_get cs (length done)) all ∙ seam done classes class in
         let sane = quiet-sane before object (deed.Class class []) (class-quiet class) is_at.may.sane tt refl in
-        safe-class (suc (length classes)) before object class (λ a. make_class_objects (object + 1) classes (part (whole_expression tree) ended)) is_at.may.sane (free object (omega arith)) is
+        safe-class before object class (λ a. make_class_objects (object + 1) classes (part (whole_expression tree) ended)) is_at.may.sane (free object (omega arith)) is
         (safe-classes (behind_class before object class) (object + 1) (done ++ class ∷ []) classes
         (all ∙ sym (append_assoc done (class ∷ []) classes)) (omega (arith, number, length-append done (class ∷ [])))
         (at-later is_at (quiet-within before object (deed.Class class []) (class-quiet class)) sane) (free-on before object class free))
@@ -110,10 +109,10 @@ module _ (spec : SpecTree) where
     abbrev written_classes : List Name
     written_classes = map (λ (class : ClassTree). class.name) spec.classes
 
-    -- the code of main keeps the rules of journals, and asks for each class object and to end, beside what its tasks ask
-    pub safe-main : IsMainSafe (suc (length (classes_of spec))) [] (main_plan spec tree)
+    -- the code of main keeps the rules of journals
+    pub safe-main : IsMainSafe [] (main_plan spec tree)
     safe-main =
-        safe-class (suc (length written_classes)) [] 0 io (λ a. make_class_objects 1 written_classes (part (whole_expression tree) ended)) sane-start refl refl
+        safe-class [] 0 io (λ a. make_class_objects 1 written_classes (part (whole_expression tree) ended)) sane-start refl refl
         (safe-classes (behind_class [] 0 io) 1 (io ∷ []) written_classes refl refl
         (record { within = quiet-within [] 0 (deed.Class io []) (class-quiet io); may = first-run })
         (free-on [] 0 io (λ n above. refl)))

@@ -20,7 +20,7 @@ use Rattle.node_meaning.specs.Names.{value_in, variable_in}
 use Rattle.node_meaning.specs.Records.{field_value}
 use Rattle.node_meaning.specs.Expressions.{held_value, member_value, name_value, read_found, read_member, selected, value_named, read_held, read_on, slot_value}
 use Rattle.node_meaning.specs.Envs.{Locals, Here, Held, slot_held, local_named}
-use Rattle.vdm_meaning.specs.Main.{of_thread}
+use Rattle.stmt_meaning.specs.Questions.{of_thread}
 use Rattle.vdm_meaning.proofs.Rules.{AreKnown, HasObject, HoldsKnown, IsSafe}
 use Rattle.vdm_meaning.proofs.Parts.{IsAt, at-among, may-fail, safe-value, safe-with_value}
 use Rattle.vdm_meaning.proofs.Strict.{safe-value_or_fault}
@@ -42,7 +42,7 @@ second-known : {X : Type 0} (now : List Entry) (found : Option (X × Slot)) → 
 second-known now None h = tt
 second-known now (Some p) h = h
 
-each_reverse : {X : Type 0} (P : X → Type 0) (xs : List X) → Each P xs → Each P (reverse xs)
+pub each_reverse : {X : Type 0} (P : X → Type 0) (xs : List X) → Each P xs → Each P (reverse xs)
 each_reverse P [] h = tt
 each_reverse P (x ∷ xs) h = subst (Each P) (sym (reverse-cons x xs)) (each_append P (reverse xs) (x ∷ []) (each_reverse P xs h.1) (h.0, tt))
 
@@ -61,7 +61,7 @@ held-known now held var h =
 
 module _ (spec : SpecTree) (first now : List Entry) (here : Here) (place : Place) (locals : Locals) (is_at : IsAt first now here locals) where
   safe-slot : (slot : Slot) → IsKnownSlot now slot → IsSafe spec first now (slot_value place slot locals)
-  safe-slot (Holds v) known = safe-value spec (Some 3) v is_at known
+  safe-slot (Holds v) known = safe-value spec v is_at known
   safe-slot Unset known = may-fail spec Undefined place is_at.may
 
   pub safe-held : (found : Option Slot) → IfSome found (IsKnownSlot now) → IsSafe spec first now (held_value place found locals)
@@ -71,8 +71,8 @@ module _ (spec : SpecTree) (first now : List Entry) (here : Here) (place : Place
   safe-read_on : (var : VarRef) (me : Option ℕ) → HasObject now me → IsSafe spec first now (read_on (of_thread spec) place var me locals)
   safe-read_on var None there = may-fail spec Undefined place is_at.may
   safe-read_on var (Some me) there =
-      safe-asked spec first now here locals (reads me var) place (with_value place value) is_at there (λ n later flow at_later known.
-      safe-with_value spec n place value flow at_later known (λ v after k l. safe-value spec n v (at-among at_later after l) k))
+      safe-asked spec first now here locals (reads me var) place (with_value place value) is_at there (λ later flow at_later known.
+      safe-with_value spec place value flow at_later known (λ v after k l. safe-value spec v (at-among at_later after l) k))
 
   safe-read_held : (var : VarRef) (me : Option ℕ) (held : Option Held) → HasObject now me → HoldsKnown now held → IsSafe spec first now (read_held (of_thread spec) place var me held locals)
   safe-read_held var me None there known = safe-read_on var me there

@@ -17,7 +17,7 @@ use Rattle.vdm_legal.proofs.Known.{IsKnownSlot, there-last}
 use Rattle.vdm_legal.proofs.Sanity.{IsQuiet, IsWithin, quiet-sane, quiet-within, within-self, within-then}
 use Rattle.node_meaning.specs.Envs.{Here, Locals, no_nest}
 use Rattle.node_meaning.specs.Tasks.{Code, Flow, exited, gave, next, returned}
-use Rattle.node_meaning.specs.Objects.{created, initial_of, initial_then, initial_value, initialise, make_object, new_object, object_asked}
+use Rattle.stmt_meaning.specs.Objects.{created, initial_of, initial_then, initial_value, initialise, make_object, new_object, object_asked}
 use Rattle.node_meaning.specs.Names.{variable_definition}
 use Rattle.vdm_meaning.proofs.Rules.{GivesKnown, IsSafe, MayLeave}
 use Rattle.vdm_meaning.proofs.Parts.{IsAt, at-inside, at-later, may-fail, safe-finish, safe-value, slots-on}
@@ -41,14 +41,14 @@ module _ (spec : SpecTree) (first : List Entry) (here : Here) (class : Name) (pl
 
   safe-object_asked : (now : List Entry) (slots : List Slot) (after : Locals) → IsAt first now here after → AreKnownSlots now slots → IsSafe spec first now (object_asked class place slots after)
   safe-object_asked now slots after is_at known =
-      safe-New spec MayLeave first now 2 (created class place after) class slots (record { ready = tt; sane = is_at.may.sane }) (λ o.
+      safe-New spec MayLeave first now (created class place after) class slots (record { ready = tt; sane = is_at.may.sane }) (λ o.
       let sane = quiet-sane now o (deed.New class slots) (new-quiet class slots) is_at.may.sane known refl in
       let within = quiet-within now o (deed.New class slots) (new-quiet class slots) in
-      safe-value spec (Some 2) (object o class) (at-later is_at within sane) (there-last now o (deed.New class slots)))
+      safe-value spec (object o class) (at-later is_at within sane) (there-last now o (deed.New class slots)))
 
   safe-make_object : (now : List Entry) (vars : List VarRef) (slots : List Slot) → IsAt first now here locals → AreKnownSlots now slots → IsSafe spec first now (make_object spec class place locals vars slots)
   safe-make_object now vars slots is_at known =
-      safe-slots_typed spec (Some 3) first here vars slots now place (object_asked class place slots) locals is_at known (λ later after w at_later.
+      safe-slots_typed spec first here vars slots now place (object_asked class place slots) locals is_at known (λ later after w at_later.
       safe-object_asked later slots after at_later (slots-on now later w slots known))
 
   safe-initial_value : (now : List Entry) (rest : List Slot → Code) (slots : List Slot) (flow : Flow) → IsAt first now here locals → AreKnownSlots now slots → GivesKnown now flow → Fills now rest → IsSafe spec first now (initial_value place locals rest slots flow)
@@ -56,7 +56,7 @@ module _ (spec : SpecTree) (first : List Entry) (here : Here) (class : Name) (pl
   safe-initial_value now rest slots (gave Unset inner) is_at known also fills = may-fail spec Undefined place is_at.may
   safe-initial_value now rest slots (next inner) is_at known also fills = may-fail spec Undefined place is_at.may
   safe-initial_value now rest slots (returned slot inner) is_at known also fills = may-fail spec Undefined place is_at.may
-  safe-initial_value now rest slots (exited v from inner) is_at known also fills = safe-finish spec (Some 3) (exited v from locals) is_at (also.0, is_at.may.known)
+  safe-initial_value now rest slots (exited v from inner) is_at known also fills = safe-finish spec (exited v from locals) is_at (also.0, is_at.may.known)
 
   safe-initial_then : (now : List Entry) (stands : Name) (initial : Option ExprTree) (rest : List Slot → Code) (slots : List Slot) → IsAt first now here locals → AreKnownSlots now slots → Fills now rest → IsSafe spec first now (initial_then stands initial place locals rest slots)
   safe-initial_then now stands None rest slots is_at known fills = fills now (slots ++ Unset ∷ []) (within-self now) is_at (slot-more now slots Unset known tt)

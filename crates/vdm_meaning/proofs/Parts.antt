@@ -1,5 +1,5 @@
 -- Parts of plans that keep the rules: where a plan stands, how it fails, and expressions whose value is wanted.
-use Rattle.std.proofs.Common.{◌≡◌, ◌++◌, [], if◌then◌else◌, Bool, List, None, Option, Some, false, take, true, ℕ}
+use Rattle.std.proofs.Common.{◌≡◌, ◌++◌, ◌∷◌, [], if◌then◌else◌, Bool, List, None, Option, Some, false, take, true, ℕ}
 use Rattle.std.specs.List.{AllByRecursion as Each}
 use Rattle.vdm_kinds.specs.declared.member.VarRef.{VarRef}
 use Rattle.vdm_kinds.specs.declared.name.Name.{Name}
@@ -11,15 +11,15 @@ use Rattle.vdm_values.specs.declared.slot.Slot.TheVariants.{Unset, Held as Holds
 use Rattle.abstract_syntax.specs.Values.{ValueTree}
 use Rattle.abstract_syntax.specs.Expressions.{ExprTree}
 use Rattle.abstract_syntax.specs.Classes.{SpecTree}
-use Rattle.value_parts.proofs.Everywhere.{each_take}
+use Rattle.value_parts.proofs.Everywhere.{each_append, each_take}
 use Rattle.run_journal.specs.declared.entry.Entry.{Entry}
-use Rattle.plans.specs.Plans.{become, finish, part}
+use Rattle.plans.specs.Plans.{ask, become, bind, fail, finish, part}
 use Rattle.vdm_legal.proofs.Known.{IsKnown, IsKnownSlot, each_wider, known-on, slot-on, there-on}
 use Rattle.vdm_legal.proofs.Sanity.{IsSane, IsWithin, within-self, within-then}
 use Rattle.node_meaning.specs.Faults.{fault_at}
 use Rattle.node_meaning.specs.Tasks.{Code, Flow, Task, cut_to, evaluated, exited, expr_in, gave, next, returned, value, with_value}
 use Rattle.node_meaning.specs.Envs.{Locals, Nest, Here, Held, at, inside_class}
-use Rattle.vdm_meaning.proofs.Rules.{AreKnown, GivesKnown, HasObject, HoldsKnown, IsSafe, IsSafeWith, MayBegin, MayFail, MayRun}
+use Rattle.vdm_meaning.proofs.Rules.{AreKnown, GivesKnown, HasObject, HoldsKnown, IsSafe, MayBegin, MayFail, MayLeave, MayRun}
 
 -- ---- what is known behind some entries is known behind later ones
 
@@ -97,6 +97,11 @@ at-inside class nest is_at = record {
   may = record { sane = is_at.may.sane; main = is_at.may.main; me = tt; held = tt; known = tt };
 }
 
+-- with one local more
+pub at-more : {first now : List Entry} {here : Here} {locals : Locals} → IsAt first now here locals → (name : Name) (slot : Slot) → IsKnownSlot now slot → IsAt first now here (locals ++ (name, slot) ∷ [])
+at-more {now = now} {locals = locals} is_at name slot known =
+    at-among is_at (locals ++ (name, slot) ∷ []) (each_append (λ (l : Name × Slot). IsKnownSlot now l.1) locals ((name, slot) ∷ []) is_at.may.known (known, tt))
+
 -- the first so many of known locals are known
 cut-known : (now : List Entry) (count : ℕ) (locals : Locals) → AreKnown now locals → AreKnown now (take count locals)
 cut-known now count locals known = each_take (λ (l : Name × Slot). IsKnownSlot now l.1) count locals known
@@ -113,43 +118,52 @@ may-fail spec kind place h = record { ready = h.main; sane = h.sane }
 -- ---- what is done next
 
 -- what is done from any known locals behind any later entries keeps the rules
-abbrev pub Goes : SpecTree → Option ℕ → List Entry → Here → List Entry → (Locals → Code) → Type 0
-Goes spec n first here now f =
-    (later : List Entry) (locals : Locals) → IsWithin now later → IsAt first later here locals → IsSafeWith spec n first later (f locals)
+abbrev pub Goes : SpecTree → List Entry → Here → List Entry → (Locals → Code) → Type 0
+Goes spec first here now f =
+    (later : List Entry) (locals : Locals) → IsWithin now later → IsAt first later here locals → IsSafe spec first later (f locals)
 
 -- ... and with anything that has a property
-abbrev pub GoesWith : {X : Type 0} → (List Entry → X → Type 0) → SpecTree → Option ℕ → List Entry → Here → List Entry → (X → Locals → Code) → Type 0
-GoesWith {X} Q spec n first here now f =
-    (later : List Entry) (x : X) (locals : Locals) → IsWithin now later → IsAt first later here locals → Q later x → IsSafeWith spec n first later (f x locals)
+abbrev pub GoesWith : {X : Type 0} → (List Entry → X → Type 0) → SpecTree → List Entry → Here → List Entry → (X → Locals → Code) → Type 0
+GoesWith {X} Q spec first here now f =
+    (later : List Entry) (x : X) (locals : Locals) → IsWithin now later → IsAt first later here locals → Q later x → IsSafe spec first later (f x locals)
 
-pub goes-later : {X : Type 0} (Q : List Entry → X → Type 0) (spec : SpecTree) (n : Option ℕ) (first : List Entry) (here : Here) (now later : List Entry) (f : X → Locals → Code) → IsWithin now later → GoesWith Q spec n first here now f → GoesWith Q spec n first here later f
-goes-later Q spec n first here now later f w goes end x locals v is_at q = goes end x locals (within-then now later end w v) is_at q
+pub goes-later : {X : Type 0} (Q : List Entry → X → Type 0) (spec : SpecTree) (first : List Entry) (here : Here) (now later : List Entry) (f : X → Locals → Code) → IsWithin now later → GoesWith Q spec first here now f → GoesWith Q spec first here later f
+goes-later Q spec first here now later f w goes end x locals v is_at q = goes end x locals (within-then now later end w v) is_at q
+
+-- one plan, and what follows its result; the first began behind `begun`
+module _ (spec : SpecTree) (begun first : List Entry) (after : Flow → Code) (goes : (later : List Entry) (flow : Flow) → IsWithin begun later → MayLeave later flow → IsSafe spec first later (after flow)) where
+  pub safe-bind : (code : Code) (now : List Entry) → IsSafe spec begun now code → IsSafe spec first now (bind code after)
+  safe-bind (finish flow) now safe = goes now flow safe.0 safe.1
+  safe-bind (fail f) now safe = safe
+  safe-bind (ask q further) now safe = (safe.0, λ a later taken. safe-bind (further a) later (safe.1 a later taken))
+  safe-bind (part task further) now safe = (safe.0, λ later flow w leaves. safe-bind (further flow) later (safe.1 later flow w leaves))
+  safe-bind (become task) now safe = (safe.0, λ later flow w leaves. let ends = safe.1 later flow w leaves in goes later flow ends.0 ends.1)
 
 -- ---- values
 
-module _ (spec : SpecTree) (n : Option ℕ) where
-  pub safe-finish : {first now : List Entry} {here : Here} {locals : Locals} (flow : Flow) → IsAt first now here locals → GivesKnown now flow → IsSafeWith spec n first now (finish flow)
+module _ (spec : SpecTree) where
+  pub safe-finish : {first now : List Entry} {here : Here} {locals : Locals} (flow : Flow) → IsAt first now here locals → GivesKnown now flow → IsSafe spec first now (finish flow)
   safe-finish flow is_at known = (is_at.within, (is_at.may.sane, known))
 
-  pub safe-value : {first now : List Entry} {here : Here} {locals : Locals} (v : ValueTree) → IsAt first now here locals → IsKnown now v → IsSafeWith spec n first now (value v locals)
+  pub safe-value : {first now : List Entry} {here : Here} {locals : Locals} (v : ValueTree) → IsAt first now here locals → IsKnown now v → IsSafe spec first now (value v locals)
   safe-value v is_at known = (is_at.within, (is_at.may.sane, (known, is_at.may.known)))
 
   -- what is done with a value that came, or the fault where none came
-  pub safe-with_value : {first now : List Entry} {here : Here} {locals : Locals} (place : Place) (further : ValueTree → Locals → Code) (flow : Flow) → IsAt first now here locals → GivesKnown now flow → ((v : ValueTree) (after : Locals) → IsKnown now v → AreKnown now after → IsSafeWith spec n first now (further v after)) → IsSafeWith spec n first now (with_value place further flow)
+  pub safe-with_value : {first now : List Entry} {here : Here} {locals : Locals} (place : Place) (further : ValueTree → Locals → Code) (flow : Flow) → IsAt first now here locals → GivesKnown now flow → ((v : ValueTree) (after : Locals) → IsKnown now v → AreKnown now after → IsSafe spec first now (further v after)) → IsSafe spec first now (with_value place further flow)
   safe-with_value place further (gave (Holds v) after) is_at known goes = goes v after known.0 known.1
   safe-with_value place further (gave Unset after) is_at known goes = may-fail spec Undefined place is_at.may
   safe-with_value place further (next after) is_at known goes = may-fail spec Undefined place is_at.may
   safe-with_value place further (returned slot after) is_at known goes = may-fail spec Undefined place is_at.may
   safe-with_value place further (exited v from after) is_at known goes = (is_at.within, (is_at.may.sane, known))
 
-  pub safe-if : (first now : List Entry) (b : Bool) (p q : Code) → IsSafeWith spec n first now p → IsSafeWith spec n first now q → IsSafeWith spec n first now (if b then p else q)
+  pub safe-if : (first now : List Entry) (b : Bool) (p q : Code) → IsSafe spec first now p → IsSafe spec first now q → IsSafe spec first now (if b then p else q)
   safe-if first now true p q h k = h
   safe-if first now false p q h k = k
 
   -- ---- parts
 
   -- an expression, and what is done with its value
-  pub safe-evaluated : (first now : List Entry) (here : Here) (locals : Locals) (tree : ExprTree) (place : Place) (further : ValueTree → Locals → Code) → IsAt first now here locals → GoesWith IsKnown spec n first here now further → IsSafeWith spec n first now (evaluated here locals tree place further)
+  pub safe-evaluated : (first now : List Entry) (here : Here) (locals : Locals) (tree : ExprTree) (place : Place) (further : ValueTree → Locals → Code) → IsAt first now here locals → GoesWith IsKnown spec first here now further → IsSafe spec first now (evaluated here locals tree place further)
   safe-evaluated first now here locals tree place further is_at goes = (
     is_at.may,
     λ later flow w leaves.
@@ -158,10 +172,10 @@ module _ (spec : SpecTree) (n : Option ℕ) where
   )
 
   -- a task in the place of the node
-  pub safe-become_task : {first now : List Entry} {here : Here} {locals : Locals} (task : Task) → IsAt first now here locals → MayBegin now task → IsSafeWith spec n first now (become task)
+  pub safe-become_task : {first now : List Entry} {here : Here} {locals : Locals} (task : Task) → IsAt first now here locals → MayBegin now task → IsSafe spec first now (become task)
   safe-become_task {first = first} {now = now} task is_at begins = (begins, λ later flow w leaves. (within-then first now later is_at.within w, leaves))
 
-  pub safe-cut : {first now : List Entry} {here : Here} {locals : Locals} (count : ℕ) (flow : Flow) → IsAt first now here locals → GivesKnown now flow → IsSafeWith spec n first now (cut_to count flow)
+  pub safe-cut : {first now : List Entry} {here : Here} {locals : Locals} (count : ℕ) (flow : Flow) → IsAt first now here locals → GivesKnown now flow → IsSafe spec first now (cut_to count flow)
   safe-cut {now = now} count (gave slot after) is_at known = (is_at.within, (is_at.may.sane, (known.0, cut-known now count after known.1)))
   safe-cut {now = now} count (next after) is_at known = (is_at.within, (is_at.may.sane, cut-known now count after known))
   safe-cut {now = now} count (returned slot after) is_at known = (is_at.within, (is_at.may.sane, (known.0, cut-known now count after known.1)))
@@ -170,8 +184,8 @@ module _ (spec : SpecTree) (n : Option ℕ) where
 module _ (spec : SpecTree) where
   -- an expression in the place of the node
   pub safe-become : (first now : List Entry) (here : Here) (locals : Locals) (tree : ExprTree) → IsAt first now here locals → IsSafe spec first now (become (expr_in (at here locals) tree))
-  safe-become first now here locals tree is_at = safe-become_task spec (Some 3) (expr_in (at here locals) tree) is_at is_at.may
+  safe-become first now here locals tree is_at = safe-become_task spec (expr_in (at here locals) tree) is_at is_at.may
 
   -- ... without the locals that were bound for it
   pub safe-within : (first now : List Entry) (here : Here) (count : ℕ) (body : ExprTree) (locals : Locals) → IsAt first now here locals → IsSafe spec first now (part (expr_in (at here locals) body) (cut_to count))
-  safe-within first now here count body locals is_at = (is_at.may, λ later flow w leaves. safe-cut spec (Some 3) count flow (at-later is_at w leaves.0) leaves.1)
+  safe-within first now here count body locals is_at = (is_at.may, λ later flow w leaves. safe-cut spec count flow (at-later is_at w leaves.0) leaves.1)

@@ -46,7 +46,7 @@ module _ (P : ℕ → Name → Type 0) where
   behind_keeps w None h k = tt
   behind_keeps w (Some vs) h k = (h, k)
 
-  with_field_keeps : (name : Name) (v : ValueTree) (fields : List FieldTree) (ws : List ValueTree) → EachObject P v → Each (EachObject P) ws → IfSome (with_field name v fields ws) (Each (EachObject P))
+  pub with_field_keeps : (name : Name) (v : ValueTree) (fields : List FieldTree) (ws : List ValueTree) → EachObject P v → Each (EachObject P) ws → IfSome (with_field name v fields ws) (Each (EachObject P))
   with_field_keeps name v (field ∷ fields) (w ∷ ws) h k =
       by (is_same_name name field.name) (behind_keeps w (with_field name v fields ws) k.0 (with_field_keeps name v fields ws h k.1))
     where
@@ -69,10 +69,10 @@ module _ (P : ℕ → Name → Type 0) where
 -- ---- plans
 
 module _ (spec : SpecTree) (first : List Entry) (here : Here) (place : Place) where
-  safe-fields_typed : (fields : List FieldTree) (vs : List ValueTree) (now : List Entry) (nest : Nest) (class : Name) (further : Locals → Code) (locals : Locals) → IsAt first now here locals → EachKnown now vs → Goes spec (Some 3) first here now further → IsSafe spec first now (fields_typed spec nest class place fields vs further locals)
+  safe-fields_typed : (fields : List FieldTree) (vs : List ValueTree) (now : List Entry) (nest : Nest) (class : Name) (further : Locals → Code) (locals : Locals) → IsAt first now here locals → EachKnown now vs → Goes spec first here now further → IsSafe spec first now (fields_typed spec nest class place fields vs further locals)
   safe-fields_typed [] [] now nest class further locals is_at known goes = goes now locals (within-self now) is_at
   safe-fields_typed (field ∷ fields) (v ∷ vs) now nest class further locals is_at known goes =
-      safe-typed spec (Some 3) first here now locals nest (Some class) field.declared place (λ fitting_v after. fields_typed spec nest class place fields vs further after) v is_at known.0 (λ later w after x at_later also.
+      safe-typed spec first here now locals nest (Some class) field.declared place (λ fitting_v after. fields_typed spec nest class place fields vs further after) v is_at known.0 (λ later w after x at_later also.
       safe-fields_typed fields vs later nest class further after at_later (values-on now later x vs known.1)
       (λ end others y. goes end others (within-then now later end x y)))
   safe-fields_typed _ _ now nest class further locals is_at known goes = may-fail spec TypeFault place is_at.may

@@ -70,8 +70,8 @@ pub record MayRun (entries : List Entry) (here : Here) (locals : Locals) : Type 
 abbrev pub MayBegin : List Entry → Task → Type 0
 MayBegin entries (expr_in env tree) = MayRun entries env.here env.locals
 MayBegin entries (call_in env tree) = MayRun entries env.here env.locals
-MayBegin entries (stmt_in env tree) = MayRun entries env.here env.locals
-MayBegin entries (round_in env round) = MayRun entries env.here env.locals
+MayBegin entries (stmt_in env declared tree) = MayRun entries env.here env.locals
+MayBegin entries (round_in env declared round) = MayRun entries env.here env.locals
 
 -- ---- results
 
@@ -87,7 +87,7 @@ MayLeave entries flow = IsSane entries × GivesKnown entries flow
 
 -- ---- the rules
 
--- a call asks three questions: for the call, for its activation, and to finish; and no task asks more of its own
+-- A task may ask any number of questions: one statement may change parts of several variables, each of which is read first.
 abbrev pub rules : SpecTree → Rules Task Flow Query Answer Fault (List Entry)
 rules spec = record {
   Takes = IsAnswered spec;
@@ -96,13 +96,12 @@ rules spec = record {
   Within = IsWithin;
   Leaves = λ task. MayLeave;
   Fails = MayFail spec;
-  own = Some 3;
+  own = None;
 }
 
--- a plan that keeps the rules of journals behind the entries, with at most n questions of its own
-abbrev pub IsSafeWith : SpecTree → Option ℕ → List Entry → List Entry → Code → Type 0
-IsSafeWith spec n first entries code = Safe (rules spec) MayLeave n first entries code
+-- a plan that keeps them behind the entries, and leaves what may be left
+abbrev pub Keeps : SpecTree → (List Entry → Flow → Type 0) → List Entry → List Entry → Code → Type 0
+Keeps spec left first entries code = Safe (rules spec) left None first entries code
 
--- ... with as many as a task may ask
 abbrev pub IsSafe : SpecTree → List Entry → List Entry → Code → Type 0
-IsSafe spec first entries code = IsSafeWith spec (Some 3) first entries code
+IsSafe spec first entries code = Keeps spec MayLeave first entries code

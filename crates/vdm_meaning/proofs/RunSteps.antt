@@ -1,5 +1,5 @@
 -- A run as steps of main's code: what main comes to behind a run is sound.
-use Rattle.std.proofs.Common.{◌≡◌, ℕ, suc, List, [], ◌∷◌, ◌++◌, length, Some, refl, sym, ap, ◌∙◌, subst, append_assoc, append-nil}
+use Rattle.std.proofs.Common.{◌≡◌, ℕ, List, [], ◌∷◌, ◌++◌, None, Some, refl, sym, ap, ◌∙◌, subst, append_assoc, append-nil}
 use Rattle.abstract_syntax.specs.Classes.{SpecTree}
 use Rattle.abstract_syntax.specs.Expressions.{ExprTree}
 use Rattle.run_journal.specs.declared.answer.Answer.{Answer}
@@ -11,13 +11,13 @@ use Rattle.plans.specs.Plans.{Outcome, needs, run, meaning}
 use Rattle.plans.specs.Steps.{Step, answers, last, Plays, MayHaveAsked, SoundBy}
 use Rattle.plans.proofs.Playing.{plays-same}
 use Rattle.plans.proofs.Sound.{sound}
-use Rattle.vdm_legal.specs.ClassObjects.{classes_of}
 use Rattle.vdm_legal.proofs.Journals.{main_answers, made-back}
 use Rattle.vdm_legal.proofs.Taken.{legal-entry}
 use Rattle.node_meaning.specs.Faults.{Fault}
-use Rattle.node_meaning.specs.TaskPlans.{plan_of}
+use Rattle.stmt_meaning.specs.TaskPlans.{plan_of}
 use Rattle.node_meaning.specs.Tasks.{Flow, Query, noted, needed, spent}
-use Rattle.vdm_meaning.specs.Main.{asks, over, standing_of, of_thread, main_plan}
+use Rattle.vdm_meaning.specs.Main.{asks, over, standing_of, main_plan}
+use Rattle.stmt_meaning.specs.Questions.{of_thread}
 use Rattle.vdm_meaning.specs.Runs.{IsLegal, AreLegal, IsRun}
 use Rattle.vdm_meaning.proofs.Main.{LeavesAnEnd, safe-main}
 use Rattle.vdm_meaning.proofs.Rules.{IsTaken, IsAnswered, rules}
@@ -32,10 +32,6 @@ steps_of before (e ∷ entries) = (answer_of e, before ++ e ∷ []) ∷ steps_of
 pub last-steps : (before entries : List Entry) → last before (steps_of before entries) ≡ before ++ entries
 last-steps before [] = sym (append-nil before)
 last-steps before (e ∷ entries) = last-steps (before ++ e ∷ []) entries ∙ append_assoc before (e ∷ []) entries
-
-pub length-steps : (before entries : List Entry) → length (steps_of before entries) ≡ length entries
-length-steps before [] = refl
-length-steps before (e ∷ entries) = ap (λ n. suc n) (length-steps (before ++ e ∷ []) entries)
 
 -- ---- the steps cut in two
 
@@ -70,10 +66,10 @@ cut before (x ∷ entries) (step ∷ taken) more e =
 abbrev pub main_outcome : SpecTree → ExprTree → ℕ → List Answer → Outcome Flow Query Answer Fault
 main_outcome spec tree units bs = run (meaning (plan_of (of_thread spec)) spent) (main_plan spec tree) bs units
 
--- it is sound behind a run: main asks for each class object and to end, and its tasks three questions for each unit
+-- it is sound behind a run
 abbrev pub IsMainSound : SpecTree → ExprTree → ℕ → List Entry → Outcome Flow Query Answer Fault → Type 0
 IsMainSound spec tree units entries o =
-    SoundBy (rules spec) LeavesAnEnd (MayHaveAsked (Some 3) (Some (suc (length (classes_of spec)))) units) [] [] (steps_of [] entries) (main_outcome spec tree units) o
+    SoundBy (rules spec) LeavesAnEnd (MayHaveAsked None None units) [] [] (steps_of [] entries) (main_outcome spec tree units) o
 
 module _ (spec : SpecTree) (tree : ExprTree) (units : ℕ) where
   answers-steps : (before entries : List Entry) → AreLegal spec tree units before entries → main_answers before ++ answers (steps_of before entries) ≡ main_answers (before ++ entries)
@@ -120,4 +116,4 @@ module _ (spec : SpecTree) (tree : ExprTree) (units : ℕ) where
   pub run-sound : (entries : List Entry) → IsRun spec tree units entries → IsMainSound spec tree units entries (main_outcome spec tree units (main_answers entries))
   run-sound entries h =
       subst (λ bs. IsMainSound spec tree units entries (main_outcome spec tree units bs)) (run-answers entries h)
-      (sound (rules spec) (plan_of (of_thread spec)) spent (tasks-keep spec) (main_plan spec tree) LeavesAnEnd (Some (suc (length (classes_of spec)))) [] [] (safe-main spec tree) units (steps_of [] entries) (plays [] entries h))
+      (sound (rules spec) (plan_of (of_thread spec)) spent (tasks-keep spec) (main_plan spec tree) LeavesAnEnd None [] [] (safe-main spec tree) units (steps_of [] entries) (plays [] entries h))

@@ -24,7 +24,7 @@ use Rattle.vdm_legal.proofs.Sanity.{within-self}
 use Rattle.node_meaning.specs.Envs.{Here, Locals}
 use Rattle.node_meaning.specs.Tasks.{Code, value_or_fault}
 use Rattle.node_meaning.specs.Strict.{Strict, a_component, a_map, a_sequence, a_set, a_subsequence, a_token, a_tuple, collected, component, made_of, make, of_one, of_three, of_two, one_operand, pairs_in, strict, there, two_operands}
-use Rattle.vdm_meaning.proofs.Rules.{IsSafe, IsSafeWith}
+use Rattle.vdm_meaning.proofs.Rules.{IsSafe}
 use Rattle.vdm_meaning.proofs.Parts.{EachKnown, GoesWith, IsAt, goes-later, may-fail, safe-evaluated, safe-value, values-on}
 
 -- ---- what is made has no object but those of the values
@@ -78,20 +78,20 @@ module _ (P : ℕ → Name → Type 0) where
 
 module _ (spec : SpecTree) where
   pub safe-value_or_fault : {first now : List Entry} {here : Here} {locals : Locals} (place : Place) (result : Result ValueTree RunFault) → IsAt first now here locals → IfOk result (IsKnown now) → IsSafe spec first now (value_or_fault place result locals)
-  safe-value_or_fault place (Ok v) is_at known = safe-value spec (Some 3) v is_at known
+  safe-value_or_fault place (Ok v) is_at known = safe-value spec v is_at known
   safe-value_or_fault place (Err kind) is_at known = may-fail spec kind place is_at.may
 
   pub safe-make : {first now : List Entry} {here : Here} {locals : Locals} (what : Strict) (place : Place) (vs : List ValueTree) → IsAt first now here locals → EachKnown now vs → IsSafe spec first now (make what place vs locals)
   safe-make {now = now} what place vs is_at known = safe-value_or_fault place (made_of what vs) is_at (made_keeps (IsThere now) what vs known)
 
   -- parts from left to right, and what is done with their values
-  pub safe-collected : (n : Option ℕ) (first now : List Entry) (here : Here) (place : Place) (trees : ExprTrees) (done : List ValueTree) (further : List ValueTree → Locals → Code) (locals : Locals) → IsAt first now here locals → EachKnown now done → GoesWith EachKnown spec n first here now further → IsSafeWith spec n first now (collected here place trees done further locals)
-  safe-collected n first now here place no_exprs done further locals is_at known goes = goes now done locals (within-self now) is_at known
-  safe-collected n first now here place (one_expr tree trees) done further locals is_at known goes =
-      safe-evaluated spec n first now here locals tree place (λ v after. collected here place trees (done ++ v ∷ []) further after) is_at (λ later v after w at_later also.
-      safe-collected n first later here place trees (done ++ v ∷ []) further after at_later (each_append (IsKnown later) done (v ∷ []) (values-on now later w done known) (also, tt))
-      (goes-later EachKnown spec n first here now later further w goes))
+  pub safe-collected : (first now : List Entry) (here : Here) (place : Place) (trees : ExprTrees) (done : List ValueTree) (further : List ValueTree → Locals → Code) (locals : Locals) → IsAt first now here locals → EachKnown now done → GoesWith EachKnown spec first here now further → IsSafe spec first now (collected here place trees done further locals)
+  safe-collected first now here place no_exprs done further locals is_at known goes = goes now done locals (within-self now) is_at known
+  safe-collected first now here place (one_expr tree trees) done further locals is_at known goes =
+      safe-evaluated spec first now here locals tree place (λ v after. collected here place trees (done ++ v ∷ []) further after) is_at (λ later v after w at_later also.
+      safe-collected first later here place trees (done ++ v ∷ []) further after at_later (each_append (IsKnown later) done (v ∷ []) (values-on now later w done known) (also, tt))
+      (goes-later EachKnown spec first here now later further w goes))
 
   pub safe-strict : (first now : List Entry) (here : Here) (what : Strict) (place : Place) (trees : ExprTrees) (locals : Locals) → IsAt first now here locals → IsSafe spec first now (strict here what place trees locals)
   safe-strict first now here what place trees locals is_at =
-      safe-collected (Some 3) first now here place trees [] (make what place) locals is_at tt (λ later vs after w at_later known. safe-make what place vs at_later known)
+      safe-collected first now here place trees [] (make what place) locals is_at tt (λ later vs after w at_later known. safe-make what place vs at_later known)

@@ -15,8 +15,8 @@ use Rattle.plans.specs.Plans.{Outcome, gives, faults, needs, finish, fail, ask, 
 use Rattle.vdm_legal.specs.ClassObjects.{classes_of}
 use Rattle.node_meaning.specs.Envs.{Locals, at, outside}
 use Rattle.node_meaning.specs.Faults.{Fault}
-use Rattle.node_meaning.specs.Needs.{thread, Setting}
-use Rattle.node_meaning.specs.TaskPlans.{plan_of}
+use Rattle.stmt_meaning.specs.Questions.{of_thread}
+use Rattle.stmt_meaning.specs.TaskPlans.{plan_of}
 use Rattle.node_meaning.specs.Tasks.{Task, expr_in, call_in, Flow, gave, next, returned, exited, Query, noted, needed, Code, spent}
 
 -- main ends with a slot
@@ -60,10 +60,6 @@ standing_of (needs (noted question)) = asks question
 standing_of (needs (needed need)) = over
 standing_of (faults f []) = asks (Fail f.fault f.exit f.place)
 standing_of (faults f (answer ∷ answers)) = over
-
--- what a thread's nodes mean
-abbrev pub of_thread : SpecTree → Setting
-of_thread spec = record { spec = spec; asker = thread }
 
 -- where main stands after its answers, with this many units
 abbrev pub main_code : SpecTree → ExprTree → ℕ → List Answer → Standing

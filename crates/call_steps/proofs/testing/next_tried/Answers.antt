@@ -1,6 +1,6 @@
 use Rattle.std.proofs.Common.{Bor, option_map, ap, sym, ◌∙◌}
 use Rattle.vdm_values.specs.declared.slot.Slot.{Slot}
-use Rattle.node_meaning.specs.Objects.{object_asked}
+use Rattle.stmt_meaning.specs.Objects.{object_asked}
 use Rattle.spec_table.specs.Tables.{table_spec}
 use Rattle.call_steps.proofs.Fitting.{without_variable, without_slot, slot_next}
 use Rattle.call_steps.proofs.testing.next_tried.Goals as goal

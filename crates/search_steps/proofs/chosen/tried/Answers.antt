@@ -9,8 +9,8 @@ use Rattle.search_steps.proofs.AtOnce.{elements_at_once}
 use Rattle.search_steps.proofs.Results.{if_ok}
 use Rattle.search_steps.proofs.chosen.tried.Goals as goal
 
-pub returns-in-None : goal.returns-in-None
-returns-in-None c =
+pub returns-in-Collects : goal.returns-in-Collects
+returns-in-Collects c =
     if_ok c.first_element.result c.first_element.ensures
     (λ s is setting locals. is setting locals
     ∙ elements_at_once (search_of c.args.search.value) (strict_of c.in-Collects.field-0) (elements_of c.in-Collects.elements)

@@ -1,0 +1,6 @@
+pub mod Beginning
+pub mod Coming
+pub mod Fitting
+pub mod Joining
+pub mod Moving
+pub mod Olds

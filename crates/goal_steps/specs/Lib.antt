@@ -1,0 +1,6 @@
+pub mod Beginnings
+pub mod Came
+pub mod Initials
+pub mod Joins
+pub mod Parts
+pub mod Slots

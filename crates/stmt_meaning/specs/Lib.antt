@@ -1,0 +1,10 @@
+pub mod Blocks
+pub mod Calls
+pub mod Flows
+pub mod Handlers
+pub mod Loops
+pub mod Objects
+pub mod Questions
+pub mod Statements
+pub mod Targets
+pub mod TaskPlans

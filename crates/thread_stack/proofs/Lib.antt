@@ -1,0 +1,4 @@
+pub mod Loads
+pub mod OfTasks
+pub mod Standings
+pub mod Surroundings
