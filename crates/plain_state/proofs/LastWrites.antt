@@ -16,12 +16,12 @@ none-last_of : {A : Type 0} (a : Option A) → last_of None a ≡ a
 none-last_of None = refl
 none-last_of (Some x) = refl
 
-written_in-last : (var : VarRef) (front : List Pair) (pair : Pair) → written_in var (front ++ pair ∷ []) ≡ last_of (written_in var front) (if is_same_variable var pair.var then Some pair.value else None)
+pub written_in-last : (var : VarRef) (front : List Pair) (pair : Pair) → written_in var (front ++ pair ∷ []) ≡ last_of (written_in var front) (if is_same_variable var pair.var then Some pair.value else None)
 written_in-last var [] pair = sym (none-last_of (if is_same_variable var pair.var then Some pair.value else None))
 written_in-last var (p ∷ front) pair =
     ap (last_of (if is_same_variable var p.var then Some p.value else None)) (written_in-last var front pair) ∙ last_of-last_of (if is_same_variable var p.var then Some p.value else None) (written_in var front) (if is_same_variable var pair.var then Some pair.value else None)
 
-last_written-last : (var : VarRef) (front : List Entry) (e : Entry) → last_written var (front ++ e ∷ []) ≡ last_of (last_written var front) (written_by var e.deed)
+pub last_written-last : (var : VarRef) (front : List Entry) (e : Entry) → last_written var (front ++ e ∷ []) ≡ last_of (last_written var front) (written_by var e.deed)
 last_written-last var [] e = sym (none-last_of (written_by var e.deed))
 last_written-last var (x ∷ front) e =
     ap (last_of (written_by var x.deed)) (last_written-last var front e) ∙ last_of-last_of (written_by var x.deed) (last_written var front) (written_by var e.deed)

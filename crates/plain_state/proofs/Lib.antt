@@ -1,4 +1,6 @@
 mod Entries
+mod Finding
 mod LastWrites
+mod Noting
 mod Numbers
 mod Variables

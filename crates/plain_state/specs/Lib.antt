@@ -1,5 +1,6 @@
 pub mod Entered
 pub mod Finishes
+pub mod Found
 pub mod Holdings
 pub mod Phases
 pub mod Readiness

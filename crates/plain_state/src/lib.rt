@@ -9,6 +9,7 @@ mod finish;
 mod layout;
 mod legal;
 mod order;
+mod places;
 mod ready;
 mod state;
 mod store;

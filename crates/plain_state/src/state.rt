@@ -3,7 +3,7 @@
 ghost use Rattle.std.specs.Prelude.{◌≡◌, ◌↔◌, IfOk, IsTrue};
 ghost use Rattle.run_journal.specs.Parts.{object_part};
 ghost use Rattle.spec_table.specs.Tables.{table_spec};
-ghost use Rattle.vdm_legal.specs.State.{first_slot, state_of};
+ghost use Rattle.vdm_legal.specs.State.{first_slot, last_written, slot_or, state_of};
 ghost use Rattle.plain_state.specs.Holdings.{held_slot};
 
 use crate::layout::first_slot;
@@ -16,7 +16,7 @@ use vdm_values::{Slot, Value};
 
 /// What a variable holds, where it stands among the entries.
 #[derive(Clone, Copy)]
-enum Holding<'a> {
+pub(crate) enum Holding<'a> {
     /// The value that was written last.
     Written(&'a Value),
     /// Nothing was written, and the object was made with this slot.
@@ -36,7 +36,7 @@ pub fn state_of(
 ) -> Result<Slot, OutOfMemory>
     ensures { IfOk result (λ held. held ≡ state_of (table_spec table.now) (object_part object entries.now) var) }
 {
-    slot_of(alloc, held_by(table, entries, object, var))
+    slot_of(alloc, held_by(table, entries, entries, object, var))
 }
 
 /// Whether the variable of the object holds this behind the entries.
@@ -49,16 +49,23 @@ pub(crate) fn holds(
 ) -> bool
     ensures { IsTrue result ↔ (state_of (table_spec table.now) (object_part object entries.now) var ≡ slot.now) }
 {
-    is_slot(held_by(table, entries, object, var), slot)
+    is_slot(held_by(table, entries, entries, object, var), slot)
 }
 
-/// What the variable of the object holds behind the entries.
-fn held_by<'a>(table: &ClassTable, entries: &'a [Entry], object: u32, var: VarRef) -> Holding<'a>
-    ensures { held_slot result ≡ state_of (table_spec table.now) (object_part object entries.now) var }
+/// What the variable of the object holds, by what it was made with in one part of the entries, and what was written in another.
+pub(crate) fn held_by<'a>(
+    table: &ClassTable,
+    made: &'a [Entry],
+    written: &'a [Entry],
+    object: u32,
+    var: VarRef,
+) -> Holding<'a>
+    ensures { held_slot result
+        ≡ slot_or (first_slot (table_spec table.now) var (object_part object made.now)) (last_written var (object_part object written.now)) }
 {
-    match last_written(entries, object, var) {
+    match last_written(written, object, var) {
         Some(value) => Holding::Written(value),
-        None => made_with(table, entries, object, var),
+        None => made_with(table, made, object, var),
     }
 }
 
@@ -73,7 +80,7 @@ fn made_with<'a>(table: &ClassTable, entries: &'a [Entry], object: u32, var: Var
 }
 
 /// A copy of the slot.
-fn slot_of(alloc: Global, holding: Holding<'_>) -> Result<Slot, OutOfMemory>
+pub(crate) fn slot_of(alloc: Global, holding: Holding<'_>) -> Result<Slot, OutOfMemory>
     ensures { IfOk result (λ slot. slot ≡ held_slot holding.entry) }
 {
     match holding {

@@ -2,23 +2,33 @@
 
 ghost use Rattle.std.specs.Prelude.{◌≡◌};
 ghost use Rattle.vdm_legal.specs.Order.{above_all};
+ghost use Rattle.plain_state.specs.Found.{FindsFirsts, FindsWrites};
 
 use crate::classes::count_of;
-use crate::state::state_of;
+use crate::places::{Place, behind, note_deed, place_of, up_to};
+use crate::state::{held_by, slot_of};
 use journal_entries::entry_made;
 use run_journal::{Answer, Deed, Entry, EntryList, Question, Thread};
 use spec_table::ClassTable;
 use std::alloc::Global;
+use std::collections::HashMap;
 use vdm_kinds::{Name, OutOfMemory, VarRef};
-use vdm_values::SlotList;
+use vdm_values::{Slot, SlotList};
 
-/// The entries of a run so far. What a question asks is found in them.
+/// The entries of a run so far. What a question asks is found in them, and beside them stands where to look, so that a read
+/// doesn't walk through all of them.
 #[derive(Drop)]
 pub struct Store {
     entries: EntryList,
     // One more than the greatest number of an object on which an entry stands.
     above: u64,
+    // How many entries stand before the first on each object, by the objects' numbers.
+    firsts: Vec<usize>,
+    // The number of the last entry that wrote each variable of an object.
+    writes: HashMap<Place, usize>,
     ghost is_above: { above ≡ above_all entries },
+    ghost finds_firsts: { FindsFirsts firsts.items entries },
+    ghost finds_writes: { FindsWrites writes entries },
 }
 
 impl Store {
@@ -34,6 +44,8 @@ impl Store {
         Store {
             entries: EntryList::new(alloc),
             above: 0,
+            firsts: Vec::new(alloc),
+            writes: HashMap::new(alloc),
         }
     }
 
@@ -115,7 +127,7 @@ impl Store {
             IsEntered (table_spec table.now) thread (journal self.old) (Question.Read object var) answer (journal self.new)) }
         ensures err { OnErr result (journal self.new ≡ journal self.old) }
     {
-        let value = state_of(alloc, table, self.entries.as_slice(), object, var)?;
+        let value = self.held(alloc, table, object, var)?;
         let answer = Answer::Slot(value.copy(alloc)?);
         self.enter(Entry::new(thread, object, Deed::Read { var, value }))?;
         Ok(answer)
@@ -162,10 +174,82 @@ impl Store {
         ensures ok { OnOk result (journal self.new ≡ journal self.old ++ entry ∷ []) }
         ensures err { OnErr result (journal self.new ≡ journal self.old) }
     {
-        let behind = entry.object as u64 + 1;
+        self.note_first(entry.object)?;
+        self.note_writes(entry.object, &entry.deed)?;
+        self.push(entry)
+    }
+}
+
+impl Store {
+    ghost use Rattle.std.specs.Prelude.{◌≡◌, ℕ, [], ◌∷◌, ◌++◌, length, take, drop, IfOk, OnErr, OnOk};
+    ghost use Rattle.run_journal.specs.Parts.{object_part};
+    ghost use Rattle.vdm_legal.specs.State.{state_of};
+    ghost use Rattle.spec_table.specs.Tables.{table_spec};
+    ghost use Rattle.plain_state.specs.Entered.{journal};
+    ghost use Rattle.plain_state.specs.Found.{AreNoted, IsFirst, IsLast};
+
+    /// A copy of what the variable of the object holds.
+    fn held(
+        &self,
+        alloc: Global,
+        table: &ClassTable,
+        object: u32,
+        var: VarRef,
+    ) -> Result<Slot, OutOfMemory>
+        ensures { IfOk result (λ held. held ≡ state_of (table_spec table.now) (object_part object (journal self.now)) var) }
+    {
+        let entries = self.entries.as_slice();
+        let made = behind(entries, self.first(object));
+        let written = up_to(entries, self.last_write(object, var));
+        slot_of(alloc, held_by(table, made, written, object, var))
+    }
+
+    /// So many entries that none of them stands on the object: all before its first, where its number is known.
+    fn first(&self, object: u32) -> usize
+        ensures { IsFirst (journal self.now) object result }
+    {
+        match self.firsts.get(object as usize) {
+            Some(number) => *number,
+            None => 0,
+        }
+    }
+
+    /// The number of the last entry that wrote the variable of the object.
+    fn last_write(&self, object: u32, var: VarRef) -> Option<usize>
+        ensures { IsLast (journal self.now) object var result }
+    {
+        self.writes.get(&place_of(object, var)).copied()
+    }
+
+    /// Notes where the first entry on a new object will stand. Objects get their numbers in order.
+    fn note_first(&mut self, object: u32) -> Result<(), OutOfMemory>
+        ensures { journal self.new ≡ journal self.old }
+    {
+        if object as u64 >= self.above && object as usize == self.firsts.len() {
+            self.firsts.push(self.entries.len())?;
+        }
+        Ok(())
+    }
+
+    /// Notes that the next entry will be the last that wrote the variables which the deed writes.
+    fn note_writes(&mut self, object: u32, deed: &Deed) -> Result<(), OutOfMemory>
+        ensures same { journal self.new ≡ journal self.old }
+        ensures noted { OnOk result (AreNoted self.new.writes object deed.now (length (journal self.new))) }
+    {
+        let number = self.entries.len();
+        note_deed(&mut self.writes, object, deed, number)
+    }
+
+    /// Adds the entry last, whose writes are noted.
+    fn push(&mut self, entry: Entry) -> Result<(), OutOfMemory>
+        requires { AreNoted self.old.writes entry.object entry.deed (length (journal self.old)) }
+        ensures ok { OnOk result (journal self.new ≡ journal self.old ++ entry ∷ []) }
+        ensures err { OnErr result (journal self.new ≡ journal self.old) }
+    {
+        let above = entry.object as u64 + 1;
         self.entries.push(entry)?;
-        if behind > self.above {
-            self.above = behind;
+        if above > self.above {
+            self.above = above;
         }
         Ok(())
     }
