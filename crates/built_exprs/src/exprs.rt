@@ -1,127 +1,119 @@
-// Expressions: the first form that is not built. Each function recurses once a level.
+// Expressions: the first form that is not built, where objects may be made or not. Each function recurses once a level.
 
 ghost use Rattle.std.specs.Prelude.{◌≡◌, map};
-ghost use Rattle.text_phases.specs.Built.{unbuilt_in_expr, unbuilt_in_call, unbuilt_in_exprs, unbuilt_in_maybe, unbuilt_in_maplets, unbuilt_in_field_values, unbuilt_in_defined, unbuilt_in_branches, unbuilt_in_cases, unbuilt_in_bind, unbuilt_in_binds, unbuilt_in_pattern, unbuilt_in_patterns, unbuilt_in_maplet_patterns};
+ghost use Rattle.text_phases.specs.Built.{unbuilt_in_expr, unbuilt_in_exprs, unbuilt_in_maybe, unbuilt_in_maplets, unbuilt_in_field_values, unbuilt_in_defined, unbuilt_in_branches, unbuilt_in_cases, unbuilt_in_bind, unbuilt_in_binds, unbuilt_in_pattern, unbuilt_in_patterns, unbuilt_in_maplet_patterns};
 ghost use Rattle.expr_tree.specs.View.{view_of, views_of, expr_trees, maybe_view, maplet_view, maplet_trees, field_value_view, field_value_trees, defined_view, defined_trees, branch_view, branch_trees, case_view, case_trees, bind_view, bind_trees, pattern_view, pattern_views, pattern_trees, maplet_pattern_view, maplet_pattern_trees};
 ghost use Rattle.built_exprs.specs.Groups.{in_operands, in_bound, in_listed};
 
-use built_nodes::{in_arguments, in_print, left_out_here};
+use built_nodes::{left_out_here, unless};
 use expr_tree::{Bind, Branch, Case, Defined, Expr, FieldValue, Maplet, MapletPattern, Pattern};
 use vdm_kinds::Place;
 
-/// Where the first form of an expression stands that is not built.
+/// In an expression, where objects may be made or not.
 #[cycle(unbuilt)]
 #[tactic(auto, using(crate::proofs::Groups::four_groups))]
-pub fn unbuilt_in_expr(expr: &Expr) -> Option<Place>
-    ensures { result ≡ unbuilt_in_expr (view_of expr.now) }
+pub(crate) fn in_expr(makes: bool, expr: &Expr) -> Option<Place>
+    ensures { result ≡ unbuilt_in_expr makes (view_of expr.now) }
 {
-    in_operands(expr).or(in_bound(expr).or(in_listed(expr).or(left_out_here(expr))))
-}
-
-/// Where the first form of what a statement calls stands that is not built.
-pub fn unbuilt_in_call(application: &Expr) -> Option<Place>
-    ensures { result ≡ unbuilt_in_call (view_of application.now) }
-{
-    match application {
-        Expr::Apply(_, _, _) => unbuilt_in_expr(application),
-        _ => Some(application.place()),
-    }
+    in_operands(makes, expr).or(in_bound(makes, expr).or(in_listed(makes, expr).or(left_out_here(
+        expr,
+    ))))
 }
 
 /// In an operator, or in what stands behind its operand.
 #[cycle(unbuilt)]
-fn in_operands(expr: &Expr) -> Option<Place>
-    ensures { result ≡ in_operands (view_of expr.now) }
+fn in_operands(makes: bool, expr: &Expr) -> Option<Place>
+    ensures { result ≡ in_operands makes (view_of expr.now) }
 {
     match expr {
-        Expr::Bracketed(inner, _) => unbuilt_in_expr(inner),
-        Expr::Prefix(_, operand, _) => unbuilt_in_expr(operand),
-        Expr::Infix(left, _, right, _) => unbuilt_in_expr(left).or(unbuilt_in_expr(right)),
-        Expr::SetRange(first, last, _) => unbuilt_in_expr(first).or(unbuilt_in_expr(last)),
-        Expr::MakeToken(inner, _) => unbuilt_in_expr(inner),
-        Expr::IsOfType(tested, _, _) => unbuilt_in_expr(tested),
-        Expr::IsOfNamed(_, tested, _) => unbuilt_in_expr(tested),
-        Expr::IsOfBasic(_, tested, _) => unbuilt_in_expr(tested),
-        Expr::Apply(head, arguments, _) => {
-            unbuilt_in_expr(head).or(in_print(head, arguments).or(in_exprs(arguments)))
-        }
-        Expr::Subsequence(target, first, last, _) => unbuilt_in_expr(target).or(unbuilt_in_expr(
-            first,
-        ).or(unbuilt_in_expr(last))),
-        Expr::Select(target, _, _, _) => unbuilt_in_expr(target),
-        Expr::SelectOfClass(target, _, _, _, _, place) => {
-            unbuilt_in_expr(target).or(Some(*place))
-        }
-        Expr::SelectPart(target, _, _) => unbuilt_in_expr(target),
+        Expr::Bracketed(inner, _) => in_expr(makes, inner),
+        Expr::Prefix(_, operand, _) => in_expr(makes, operand),
+        Expr::Infix(left, _, right, _) => in_expr(makes, left).or(in_expr(makes, right)),
+        Expr::SetRange(first, last, _) => in_expr(makes, first).or(in_expr(makes, last)),
+        Expr::MakeToken(inner, _) => in_expr(makes, inner),
+        Expr::IsOfType(tested, _, _) => in_expr(makes, tested),
+        Expr::IsOfNamed(_, tested, _) => in_expr(makes, tested),
+        Expr::IsOfBasic(_, tested, _) => in_expr(makes, tested),
+        Expr::IsOfClass(_, _, tested, _) => in_expr(makes, tested),
+        Expr::IsOfBaseClass(_, _, tested, _) => in_expr(makes, tested),
+        Expr::SameClass(left, right, _) => in_expr(makes, left).or(in_expr(makes, right)),
+        Expr::SameBaseClass(left, right, _) => in_expr(makes, left).or(in_expr(makes, right)),
+        Expr::Apply(head, arguments, _) => in_expr(makes, head).or(in_exprs(makes, arguments)),
+        Expr::Subsequence(target, first, last, _) => in_expr(makes, target).or(in_expr(
+            makes, first,
+        ).or(in_expr(makes, last))),
+        Expr::Select(target, _, _, _) => in_expr(makes, target),
+        Expr::SelectOfClass(target, _, _, _, _, _) => in_expr(makes, target),
+        Expr::SelectPart(target, _, _) => in_expr(makes, target),
         _ => None,
     }
 }
 
 /// In what has binds.
 #[cycle(unbuilt)]
-fn in_bound(expr: &Expr) -> Option<Place>
-    ensures { result ≡ in_bound (view_of expr.now) }
+fn in_bound(makes: bool, expr: &Expr) -> Option<Place>
+    ensures { result ≡ in_bound makes (view_of expr.now) }
 {
     match expr {
         Expr::SetComprehension(element, binds, condition, _) => {
-            unbuilt_in_expr(element).or(in_binds(binds).or(in_maybe(condition)))
+            in_expr(makes, element).or(in_binds(makes, binds).or(in_maybe(makes, condition)))
         }
-        Expr::MapComprehension(key, value, binds, condition, _) => unbuilt_in_expr(key).or(
-            unbuilt_in_expr(value).or(in_binds(binds).or(in_maybe(condition))),
-        ),
+        Expr::MapComprehension(key, value, binds, condition, _) => in_expr(makes, key).or(in_expr(
+            makes, value,
+        ).or(in_binds(makes, binds).or(in_maybe(makes, condition)))),
         Expr::SequenceComprehension(item, pattern, set, condition, _) => {
-            unbuilt_in_expr(item).or(unbuilt_in_pattern(pattern).or(unbuilt_in_expr(set).or(
-                in_maybe(condition),
-            )))
+            in_expr(makes, item).or(in_pattern(makes, pattern).or(in_expr(makes, set).or(in_maybe(
+                makes, condition,
+            ))))
         }
         Expr::LetBe(bind, condition, body, _) => {
-            in_bind(bind).or(in_maybe(condition).or(unbuilt_in_expr(body)))
+            in_bind(makes, bind).or(in_maybe(makes, condition).or(in_expr(makes, body)))
         }
-        Expr::ForAll(binds, condition, _) => in_binds(binds).or(unbuilt_in_expr(condition)),
-        Expr::Exists(binds, condition, _) => in_binds(binds).or(unbuilt_in_expr(condition)),
-        Expr::ExistsOne(bind, condition, _) => in_bind(bind).or(unbuilt_in_expr(condition)),
-        Expr::Iota(bind, condition, _) => in_bind(bind).or(unbuilt_in_expr(condition)),
+        Expr::ForAll(binds, condition, _) => in_binds(makes, binds).or(in_expr(makes, condition)),
+        Expr::Exists(binds, condition, _) => in_binds(makes, binds).or(in_expr(makes, condition)),
+        Expr::ExistsOne(bind, condition, _) => in_bind(makes, bind).or(in_expr(makes, condition)),
+        Expr::Iota(bind, condition, _) => in_bind(makes, bind).or(in_expr(makes, condition)),
         _ => None,
     }
 }
 
 /// In what has other lists, and in a `def`.
 #[cycle(unbuilt)]
-fn in_listed(expr: &Expr) -> Option<Place>
-    ensures { result ≡ in_listed (view_of expr.now) }
+fn in_listed(makes: bool, expr: &Expr) -> Option<Place>
+    ensures { result ≡ in_listed makes (view_of expr.now) }
 {
     match expr {
-        Expr::SetEnumeration(elements, _) => in_exprs(elements),
-        Expr::MapEnumeration(pairs, _) => in_maplets(pairs),
-        Expr::SequenceEnumeration(items, _) => in_exprs(items),
-        Expr::MakeTuple(parts, _) => in_exprs(parts),
-        Expr::MakeRecord(_, fields, _) => in_exprs(fields),
+        Expr::SetEnumeration(elements, _) => in_exprs(makes, elements),
+        Expr::MapEnumeration(pairs, _) => in_maplets(makes, pairs),
+        Expr::SequenceEnumeration(items, _) => in_exprs(makes, items),
+        Expr::MakeTuple(parts, _) => in_exprs(makes, parts),
+        Expr::MakeRecord(_, fields, _) => in_exprs(makes, fields),
         Expr::ModifyRecord(target, fields, _) => {
-            unbuilt_in_expr(target).or(in_field_values(fields))
+            in_expr(makes, target).or(in_field_values(makes, fields))
         }
-        Expr::New(_, _, arguments, _) => in_arguments(arguments),
+        Expr::New(_, _, arguments, place) => unless(makes, *place).or(in_exprs(makes, arguments)),
         Expr::LetIn(definitions, body, _) => {
-            in_definitions(definitions).or(unbuilt_in_expr(body))
+            in_definitions(makes, definitions).or(in_expr(makes, body))
         }
         Expr::DefIn(pattern, value, body, _) => {
-            unbuilt_in_pattern(pattern).or(unbuilt_in_expr(value).or(unbuilt_in_expr(body)))
+            in_pattern(makes, pattern).or(in_expr(makes, value).or(in_expr(makes, body)))
         }
-        Expr::IfElse(condition, value, elseifs, otherwise, _) => unbuilt_in_expr(condition).or(
-            unbuilt_in_expr(value).or(in_branches(elseifs).or(unbuilt_in_expr(otherwise))),
+        Expr::IfElse(condition, value, elseifs, otherwise, _) => in_expr(makes, condition).or(
+            in_expr(makes, value).or(in_branches(makes, elseifs).or(in_expr(makes, otherwise))),
         ),
         Expr::Cases(subject, cases, others, _) => {
-            unbuilt_in_expr(subject).or(in_cases(cases).or(in_maybe(others)))
+            in_expr(makes, subject).or(in_cases(makes, cases).or(in_maybe(makes, others)))
         }
         _ => None,
     }
 }
 
 #[cycle(unbuilt)]
-fn in_exprs(exprs: &[Expr]) -> Option<Place>
-    ensures { result ≡ unbuilt_in_exprs (expr_trees (views_of exprs.now)) }
+fn in_exprs(makes: bool, exprs: &[Expr]) -> Option<Place>
+    ensures { result ≡ unbuilt_in_exprs makes (expr_trees (views_of exprs.now)) }
 {
     for expr in exprs {
-        if let Some(place) = unbuilt_in_expr(expr) {
+        if let Some(place) = in_expr(makes, expr) {
             return Some(place);
         }
     }
@@ -129,21 +121,21 @@ fn in_exprs(exprs: &[Expr]) -> Option<Place>
 }
 
 #[cycle(unbuilt)]
-fn in_maybe(expr: &Option<Box<Expr>>) -> Option<Place>
-    ensures { result ≡ unbuilt_in_maybe (maybe_view expr.now) }
+fn in_maybe(makes: bool, expr: &Option<Box<Expr>>) -> Option<Place>
+    ensures { result ≡ unbuilt_in_maybe makes (maybe_view expr.now) }
 {
     match expr {
-        Some(expr) => unbuilt_in_expr(expr),
+        Some(expr) => in_expr(makes, expr),
         None => None,
     }
 }
 
 #[cycle(unbuilt)]
-fn in_maplets(maplets: &[Maplet]) -> Option<Place>
-    ensures { result ≡ unbuilt_in_maplets (maplet_trees (map maplet_view maplets.now)) }
+fn in_maplets(makes: bool, maplets: &[Maplet]) -> Option<Place>
+    ensures { result ≡ unbuilt_in_maplets makes (maplet_trees (map maplet_view maplets.now)) }
 {
     for maplet in maplets {
-        let found = unbuilt_in_expr(&maplet.key).or(unbuilt_in_expr(&maplet.value));
+        let found = in_expr(makes, &maplet.key).or(in_expr(makes, &maplet.value));
         if let Some(place) = found {
             return Some(place);
         }
@@ -152,24 +144,24 @@ fn in_maplets(maplets: &[Maplet]) -> Option<Place>
 }
 
 #[cycle(unbuilt)]
-fn in_field_values(fields: &[FieldValue]) -> Option<Place>
-    ensures { result ≡ unbuilt_in_field_values (field_value_trees (map field_value_view fields.now)) }
+fn in_field_values(makes: bool, fields: &[FieldValue]) -> Option<Place>
+    ensures { result ≡ unbuilt_in_field_values makes (field_value_trees (map field_value_view fields.now)) }
 {
     for field in fields {
-        if let Some(place) = unbuilt_in_expr(&field.value) {
+        if let Some(place) = in_expr(makes, &field.value) {
             return Some(place);
         }
     }
     None
 }
 
-/// Where the first form stands that is not built among definitions of a `let`.
+/// In definitions of a `let`.
 #[cycle(unbuilt)]
-pub fn in_definitions(definitions: &[Defined]) -> Option<Place>
-    ensures { result ≡ unbuilt_in_defined (defined_trees (map defined_view definitions.now)) }
+pub(crate) fn in_definitions(makes: bool, definitions: &[Defined]) -> Option<Place>
+    ensures { result ≡ unbuilt_in_defined makes (defined_trees (map defined_view definitions.now)) }
 {
     for defined in definitions {
-        let found = unbuilt_in_pattern(&defined.pattern).or(unbuilt_in_expr(&defined.value));
+        let found = in_pattern(makes, &defined.pattern).or(in_expr(makes, &defined.value));
         if let Some(place) = found {
             return Some(place);
         }
@@ -178,11 +170,11 @@ pub fn in_definitions(definitions: &[Defined]) -> Option<Place>
 }
 
 #[cycle(unbuilt)]
-fn in_branches(branches: &[Branch]) -> Option<Place>
-    ensures { result ≡ unbuilt_in_branches (branch_trees (map branch_view branches.now)) }
+fn in_branches(makes: bool, branches: &[Branch]) -> Option<Place>
+    ensures { result ≡ unbuilt_in_branches makes (branch_trees (map branch_view branches.now)) }
 {
     for branch in branches {
-        let found = unbuilt_in_expr(&branch.condition).or(unbuilt_in_expr(&branch.value));
+        let found = in_expr(makes, &branch.condition).or(in_expr(makes, &branch.value));
         if let Some(place) = found {
             return Some(place);
         }
@@ -191,11 +183,11 @@ fn in_branches(branches: &[Branch]) -> Option<Place>
 }
 
 #[cycle(unbuilt)]
-fn in_cases(cases: &[Case]) -> Option<Place>
-    ensures { result ≡ unbuilt_in_cases (case_trees (map case_view cases.now)) }
+fn in_cases(makes: bool, cases: &[Case]) -> Option<Place>
+    ensures { result ≡ unbuilt_in_cases makes (case_trees (map case_view cases.now)) }
 {
     for case in cases {
-        let found = in_patterns(&case.patterns).or(unbuilt_in_expr(&case.value));
+        let found = in_patterns(makes, &case.patterns).or(in_expr(makes, &case.value));
         if let Some(place) = found {
             return Some(place);
         }
@@ -203,53 +195,53 @@ fn in_cases(cases: &[Case]) -> Option<Place>
     None
 }
 
-/// Where the first form of a bind stands that is not built.
+/// In a bind.
 #[cycle(unbuilt)]
-pub fn in_bind(bind: &Bind) -> Option<Place>
-    ensures { result ≡ unbuilt_in_bind (bind_view bind.now) }
+pub(crate) fn in_bind(makes: bool, bind: &Bind) -> Option<Place>
+    ensures { result ≡ unbuilt_in_bind makes (bind_view bind.now) }
 {
-    in_patterns(&bind.patterns).or(unbuilt_in_expr(&bind.set))
+    in_patterns(makes, &bind.patterns).or(in_expr(makes, &bind.set))
 }
 
 #[cycle(unbuilt)]
-fn in_binds(binds: &[Bind]) -> Option<Place>
-    ensures { result ≡ unbuilt_in_binds (bind_trees (map bind_view binds.now)) }
+fn in_binds(makes: bool, binds: &[Bind]) -> Option<Place>
+    ensures { result ≡ unbuilt_in_binds makes (bind_trees (map bind_view binds.now)) }
 {
     for bind in binds {
-        if let Some(place) = in_bind(bind) {
+        if let Some(place) = in_bind(makes, bind) {
             return Some(place);
         }
     }
     None
 }
 
-/// Where the first form of a pattern stands that is not built.
+/// In a pattern.
 #[cycle(unbuilt)]
-pub fn unbuilt_in_pattern(pattern: &Pattern) -> Option<Place>
-    ensures { result ≡ unbuilt_in_pattern (pattern_view pattern.now) }
+pub(crate) fn in_pattern(makes: bool, pattern: &Pattern) -> Option<Place>
+    ensures { result ≡ unbuilt_in_pattern makes (pattern_view pattern.now) }
 {
     match pattern {
         Pattern::AnyValue(_) => None,
         Pattern::Bound(_, _) => None,
         Pattern::Literal(_, _) => None,
-        Pattern::EqualTo(inner, _) => unbuilt_in_expr(inner),
-        Pattern::Set(elements, _) => in_patterns(elements),
-        Pattern::Sequence(items, _) => in_patterns(items),
-        Pattern::Map(maplets, _) => in_maplet_patterns(maplets),
+        Pattern::EqualTo(inner, _) => in_expr(makes, inner),
+        Pattern::Set(elements, _) => in_patterns(makes, elements),
+        Pattern::Sequence(items, _) => in_patterns(makes, items),
+        Pattern::Map(maplets, _) => in_maplet_patterns(makes, maplets),
         Pattern::EmptyMap(_) => None,
-        Pattern::Tuple(parts, _) => in_patterns(parts),
-        Pattern::Record(_, fields, _) => in_patterns(fields),
-        Pattern::Concatenation(parts, _) => in_patterns(parts),
+        Pattern::Tuple(parts, _) => in_patterns(makes, parts),
+        Pattern::Record(_, fields, _) => in_patterns(makes, fields),
+        Pattern::Concatenation(parts, _) => in_patterns(makes, parts),
     }
 }
 
-/// Where the first form stands that is not built among patterns.
+/// In patterns.
 #[cycle(unbuilt)]
-pub fn in_patterns(patterns: &[Pattern]) -> Option<Place>
-    ensures { result ≡ unbuilt_in_patterns (pattern_trees (pattern_views patterns.now)) }
+pub(crate) fn in_patterns(makes: bool, patterns: &[Pattern]) -> Option<Place>
+    ensures { result ≡ unbuilt_in_patterns makes (pattern_trees (pattern_views patterns.now)) }
 {
     for pattern in patterns {
-        if let Some(place) = unbuilt_in_pattern(pattern) {
+        if let Some(place) = in_pattern(makes, pattern) {
             return Some(place);
         }
     }
@@ -257,11 +249,11 @@ pub fn in_patterns(patterns: &[Pattern]) -> Option<Place>
 }
 
 #[cycle(unbuilt)]
-fn in_maplet_patterns(maplets: &[MapletPattern]) -> Option<Place>
-    ensures { result ≡ unbuilt_in_maplet_patterns (maplet_pattern_trees (map maplet_pattern_view maplets.now)) }
+fn in_maplet_patterns(makes: bool, maplets: &[MapletPattern]) -> Option<Place>
+    ensures { result ≡ unbuilt_in_maplet_patterns makes (maplet_pattern_trees (map maplet_pattern_view maplets.now)) }
 {
     for maplet in maplets {
-        if let Some(place) = unbuilt_in_pattern(&maplet.key).or(unbuilt_in_pattern(&maplet.value)) {
+        if let Some(place) = in_pattern(makes, &maplet.key).or(in_pattern(makes, &maplet.value)) {
             return Some(place);
         }
     }

@@ -2,7 +2,9 @@
 #![tactic(auto)]
 
 mod exprs;
+mod parts;
 
-pub use exprs::{
-    in_bind, in_definitions, in_patterns, unbuilt_in_call, unbuilt_in_expr, unbuilt_in_pattern,
+pub use parts::{
+    unbuilt_in_bind, unbuilt_in_call, unbuilt_in_definitions, unbuilt_in_expr, unbuilt_in_initial,
+    unbuilt_in_object_invariant, unbuilt_in_pattern, unbuilt_in_patterns,
 };

@@ -48,7 +48,8 @@ pub(crate) fn unbuilt_in_values(values: &[ValueDef]) -> Option<Place>
 
 // ---- functions
 
-fn unbuilt_in_each_pattern(patterns: &[Pattern]) -> Option<Place>
+/// Where the first form stands that is not built among patterns of parameters.
+pub(crate) fn unbuilt_in_each_pattern(patterns: &[Pattern]) -> Option<Place>
     ensures { result ≡ unbuilt_in_each_pattern (pattern_views patterns.now) }
 {
     for pattern in patterns {

@@ -8,7 +8,8 @@ ghost use Rattle.built_forms.specs.Groups.{in_simple, in_bound, in_ordered};
 use crate::definitions::unbuilt_if_given;
 use crate::targets::{unbuilt_in_assignments, unbuilt_in_locals, unbuilt_in_target};
 use built_exprs::{
-    in_bind, in_definitions, in_patterns, unbuilt_in_call, unbuilt_in_expr, unbuilt_in_pattern,
+    unbuilt_in_bind, unbuilt_in_call, unbuilt_in_definitions, unbuilt_in_expr, unbuilt_in_pattern,
+    unbuilt_in_patterns,
 };
 use vdm_kinds::Place;
 use vdm_tree::{Handler, Stmt, StmtBranch, StmtCase};
@@ -44,9 +45,11 @@ fn in_bound(statement: &Stmt) -> Option<Place>
     ensures { result ≡ in_bound (stmt_view statement.now) }
 {
     match statement {
-        Stmt::Let(definitions, body, _) => in_definitions(definitions).or(unbuilt_in_stmt(body)),
+        Stmt::Let(definitions, body, _) => unbuilt_in_definitions(definitions).or(unbuilt_in_stmt(
+            body,
+        )),
         Stmt::LetBe(bind, condition, body, _) => {
-            in_bind(bind).or(unbuilt_if_given(condition).or(unbuilt_in_stmt(body)))
+            unbuilt_in_bind(bind).or(unbuilt_if_given(condition).or(unbuilt_in_stmt(body)))
         }
         Stmt::Def(pattern, value, body, _) => {
             unbuilt_in_pattern(pattern).or(unbuilt_in_expr(value).or(unbuilt_in_stmt(body)))
@@ -134,7 +137,7 @@ fn unbuilt_in_cases(cases: &[StmtCase]) -> Option<Place>
     ensures { result ≡ unbuilt_in_case_stmts (stmt_case_trees (map stmt_case_view cases.now)) }
 {
     for case in cases {
-        let found = in_patterns(&case.patterns).or(unbuilt_in_stmt(&case.body));
+        let found = unbuilt_in_patterns(&case.patterns).or(unbuilt_in_stmt(&case.body));
         if let Some(place) = found {
             return Some(place);
         }

@@ -6,7 +6,6 @@ ghost use Rattle.vdm_tree.specs.StmtView.{target_step_view, target_view, assignm
 
 use crate::definitions::unbuilt_if_given;
 use built_exprs::unbuilt_in_expr;
-use built_nodes::unbuilt_of_io;
 use vdm_kinds::Place;
 use vdm_tree::{Assignment, Dcl, Local, Target, TargetStep};
 
@@ -38,9 +37,7 @@ pub(crate) fn unbuilt_in_target(target: &Target) -> Option<Place>
 {
     match target {
         Target::Name(_, steps, _) => unbuilt_in_steps(steps),
-        Target::Qualified(class, _, _, steps, place) => {
-            unbuilt_of_io(*class, *place).or(unbuilt_in_steps(steps))
-        }
+        Target::Qualified(_, _, _, steps, _) => unbuilt_in_steps(steps),
     }
 }
 

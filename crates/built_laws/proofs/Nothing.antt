@@ -15,6 +15,3 @@ behind-none (Some x) b h = absurd (none-some x (sym h))
 -- what is told is not nothing
 pub told-none : {A B : Type 0} (x : A) → Some x ≡ None → B
 told-none x h = absurd (none-some x (sym h))
-
-pub told-behind : {A B : Type 0} (a : Option A) (x : A) → or_behind a (Some x) ≡ None → B
-told-behind a x h = told-none x (behind-none a (Some x) h)

@@ -1,17 +1,17 @@
 -- Statements, bodies and initial values that are built have a meaning.
-use Rattle.std.proofs.Common.{◌≡◌, ℕ, zero, suc, not, Some, None, ap, sym, ◌∙◌}
-use Rattle.vdm_kinds.specs.declared.name.Name.{Name}
+use Rattle.std.proofs.Common.{◌≡◌, ℕ, zero, suc, Bool, true, false, true≢false, not, Option, Some, None, subst, sym}
 use Rattle.abstract_syntax.specs.Expressions.{ExprTree}
 use Rattle.abstract_syntax.specs.Statements.{StmtTree}
 use Rattle.abstract_syntax.specs.Classes.{VariableTree, Body, written, not_yet_specified, subclass_responsibility, OperationTree}
-use Rattle.text_phases.specs.Built.{or_behind, unbuilt_if_given, unbuilt_in_body, unbuilt_in_condition, unless, unbuilt_in_head, unbuilt_behind_head, unbuilt_in_operation, unbuilt_in_variable, IsBuiltExpr}
-use Rattle.built_laws.specs.Meant.{Each, IsMeant}
+use Rattle.text_phases.specs.Built.{or_behind, unbuilt_if_given, unbuilt_in_body, unbuilt_in_each_pattern, unbuilt_in_initial, unbuilt_in_operation, unbuilt_in_variable, IsBuiltExpr}
+use Rattle.built_laws.specs.Meant.{Each, IsMeant, MakesNothing}
+use Rattle.built_laws.specs.MeantClasses.{IsMeantVariable}
 use Rattle.built_laws.specs.MeantStmts.{inner, evaluated_in, IsMeantStmt, IsMeantBody}
 use Rattle.built_laws.specs.Parts.{given_part}
-use Rattle.built_laws.proofs.Exprs.{expr_meant}
+use Rattle.built_laws.proofs.Exprs.{expr_meant, meant_in, nothing_made}
 use Rattle.built_laws.proofs.Lists.{each-weaker}
 use Rattle.built_laws.proofs.Nothing.{first-none, behind-none}
-use Rattle.built_laws.proofs.StmtParts.{IsBuiltStmt, given_part_built, evaluated_built, inner_built, plain_there}
+use Rattle.built_laws.proofs.StmtParts.{IsBuiltStmt, evaluated_built, inner_built, plain_there}
 
 -- ---- statements
 
@@ -30,19 +30,35 @@ body_meant levels (written body) h = stmt_meant levels body h
 body_meant levels not_yet_specified h = tt
 body_meant levels subclass_responsibility h = tt
 
-pub operation_meant : (levels : ℕ) (class : Name) (o : OperationTree) → unbuilt_in_operation class o ≡ None → IsMeantBody levels o.body
-operation_meant levels class o h =
-    let behind = behind-none (unbuilt_in_head class o) (unbuilt_behind_head o) h in
-    body_meant levels o.body (first-none (unbuilt_in_body o.body) (or_behind (unbuilt_in_condition o.pre) (unbuilt_in_condition o.post)) behind)
+pub body_of_meant : (levels : ℕ) (o : OperationTree) → unbuilt_in_operation o ≡ None → IsMeantBody levels o.body
+body_of_meant levels o h =
+    body_meant levels o.body
+    (first-none (unbuilt_in_body o.body) (or_behind (unbuilt_if_given o.pre) (unbuilt_if_given o.post)) (behind-none (unbuilt_in_each_pattern o.patterns) _ h))
 
 -- ---- initial values
 
-initial_built : (v : VariableTree) → unbuilt_in_variable v ≡ None → unbuilt_if_given v.initial ≡ None
-initial_built v h = behind-none (unless (not v.access.is_static) v.place) (unbuilt_if_given v.initial) h
+initial_meant : (levels : ℕ) (is_static : Bool) (initial : Option ExprTree) → unbuilt_in_initial is_static initial ≡ None → Each (IsMeant levels) (given_part initial)
+initial_meant levels is_static None h = tt
+initial_meant levels is_static (Some value) h = (meant_in (not is_static) levels value h, tt)
 
-pub initial_meant : (levels : ℕ) (v : VariableTree) → unbuilt_in_variable v ≡ None → Each (IsMeant levels) (given_part v.initial)
-initial_meant levels v h =
-    each-weaker IsBuiltExpr (IsMeant levels) (expr_meant levels) (given_part v.initial) (given_part_built v.initial (initial_built v h))
+static_makes_nothing : (levels : ℕ) (is_static : Bool) (initial : Option ExprTree) → unbuilt_in_initial is_static initial ≡ None → is_static ≡ true → Each (MakesNothing levels) (given_part initial)
+static_makes_nothing levels is_static None h e = tt
+static_makes_nothing levels true (Some value) h e = (nothing_made levels value h, tt)
+static_makes_nothing levels false (Some value) h e = absurd (true≢false (sym e))
 
-pub variable_meant : (levels : ℕ) (v : VariableTree) (value : ExprTree) → unbuilt_in_variable v ≡ None → v.initial ≡ Some value → IsMeant levels value
-variable_meant levels v value h given = expr_meant levels value (ap unbuilt_if_given (sym given) ∙ initial_built v h)
+pub variable_meant : (levels : ℕ) (v : VariableTree) → unbuilt_in_variable v ≡ None → IsMeantVariable levels v
+variable_meant levels v h = record {
+  meant = initial_meant levels v.access.is_static v.initial h;
+  static_makes_nothing = static_makes_nothing levels v.access.is_static v.initial h;
+}
+
+-- what holds of each initial value holds of the one that is given
+of_given : (P : ExprTree → Type 0) (initial : Option ExprTree) (value : ExprTree) → initial ≡ Some value → Each P (given_part initial) → P value
+of_given P initial value given h = (subst (λ (i : Option ExprTree). Each P (given_part i)) given h).0
+
+pub initial_value_meant : (levels : ℕ) (v : VariableTree) (value : ExprTree) → unbuilt_in_variable v ≡ None → v.initial ≡ Some value → IsMeant levels value
+initial_value_meant levels v value h given = of_given (IsMeant levels) v.initial value given (variable_meant levels v h).meant
+
+pub static_value_makes_nothing : (levels : ℕ) (v : VariableTree) (value : ExprTree) → unbuilt_in_variable v ≡ None → v.initial ≡ Some value → v.access.is_static ≡ true → MakesNothing levels value
+static_value_makes_nothing levels v value h given e =
+    of_given (MakesNothing levels) v.initial value given ((variable_meant levels v h).static_makes_nothing e)

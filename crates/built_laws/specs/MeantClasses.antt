@@ -1,10 +1,11 @@
 -- Classes with a meaning: each node of what is evaluated of their definitions has a plan of its own.
-use Rattle.std.specs.Prelude.{ℕ, List, [], ◌∷◌, ◌++◌, Option, Some, None}
+use Rattle.std.specs.Prelude.{◌≡◌, ℕ, true, List, [], ◌∷◌, ◌++◌, Option, Some, None}
 use Rattle.abstract_syntax.specs.Expressions.{ExprTree}
 use Rattle.abstract_syntax.specs.Classes.{
   InvariantTree,
   TypeDefTree,
   ValueDefTree,
+  VariableTree,
   VariableItem,
   variable_item,
   invariant_item,
@@ -26,7 +27,7 @@ use Rattle.abstract_syntax.specs.Classes.{
   SpecTree,
 }
 use Rattle.pattern_meaning.specs.Brackets.{given_in, given_in_list}
-use Rattle.built_laws.specs.Meant.{Each, IsMeant}
+use Rattle.built_laws.specs.Meant.{Each, IsMeant, MakesNothing}
 use Rattle.built_laws.specs.MeantStmts.{IsMeantBody}
 use Rattle.built_laws.specs.Parts.{given_part}
 
@@ -59,13 +60,27 @@ IsMeantType levels t = Each (IsMeant levels) (invariant_parts t.invariant)
 abbrev pub IsMeantValue : ℕ → ValueDefTree → Type 0
 IsMeantValue levels v = IsMeant levels v.value
 
--- a variable may have an initial value; no invariant of an instance has a meaning yet
-abbrev pub IsMeantItem : ℕ → VariableItem → Type 0
-IsMeantItem levels (variable_item v) = Each (IsMeant levels) (given_part v.initial)
-IsMeantItem levels (invariant_item condition place) = ⊥
+-- a variable may have an initial value; that of a static one makes no object
+pub record IsMeantVariable (levels : ℕ) (v : VariableTree) : Type 0 where
+  pub meant : Each (IsMeant levels) (given_part v.initial)
+  pub static_makes_nothing : v.access.is_static ≡ true → Each (MakesNothing levels) (given_part v.initial)
 
-abbrev pub IsMeantOperation : ℕ → OperationTree → Type 0
-IsMeantOperation levels o = IsMeantBody levels o.body
+-- an invariant of objects makes none
+pub record IsMeantCondition (levels : ℕ) (condition : ExprTree) : Type 0 where
+  pub meant : IsMeant levels condition
+  pub makes_nothing : MakesNothing levels condition
+
+abbrev pub IsMeantItem : ℕ → VariableItem → Type 0
+IsMeantItem levels (variable_item v) = IsMeantVariable levels v
+IsMeantItem levels (invariant_item condition place) = IsMeantCondition levels condition
+
+-- what is evaluated of an operation beside its body
+abbrev pub operation_parts : OperationTree → List ExprTree
+operation_parts o = given_in_list o.patterns ++ (given_part o.pre ++ given_part o.post)
+
+pub record IsMeantOperation (levels : ℕ) (o : OperationTree) : Type 0 where
+  pub body : IsMeantBody levels o.body
+  pub conditions : Each (IsMeant levels) (operation_parts o)
 
 -- ---- whole specifications
 

@@ -1,11 +1,7 @@
 -- Statements and bodies with a meaning: each statement of them has a plan of its own, and so has each node of their expressions.
-use Rattle.std.specs.Prelude.{◌≡◌, ℕ, zero, suc, Bool, true, false, not, ◌&&◌, List, [], ◌∷◌, ◌++◌}
-use Rattle.vdm_kinds.specs.NameList.{io}
+use Rattle.std.specs.Prelude.{◌≡◌, ℕ, zero, suc, Bool, true, false, List, [], ◌∷◌, ◌++◌}
 use Rattle.abstract_syntax.specs.Expressions.{ExprTree, apply}
 use Rattle.abstract_syntax.specs.Statements.{
-  TargetTree,
-  variable,
-  variable_of_class,
   AssignmentTree,
   LocalTree,
   DclTree,
@@ -47,20 +43,11 @@ use Rattle.abstract_syntax.specs.Statements.{
   no_handlers,
   one_handler,
 }
-use Rattle.abstract_syntax.specs.Classes.{Body, written, not_yet_specified, subclass_responsibility, is_same_name}
+use Rattle.abstract_syntax.specs.Classes.{Body, written, not_yet_specified, subclass_responsibility}
 use Rattle.pattern_meaning.specs.Brackets.{given_in, given_in_each}
 use Rattle.stmt_meaning.specs.Targets.{target_steps, indices}
 use Rattle.built_laws.specs.Meant.{Each, IsMeant}
 use Rattle.built_laws.specs.Parts.{given_part, definitions_in, bind_parts}
-
--- what may be written to: `IO` has no variable
-abbrev pub is_writable : TargetTree → Bool
-is_writable (variable name steps place) = true
-is_writable (variable_of_class class name name_place steps place) = not (is_same_name class io)
-
-abbrev pub are_writable : List AssignmentTree → Bool
-are_writable [] = true
-are_writable (a ∷ assignments) = is_writable a.target && are_writable assignments
 
 -- what is called: an application
 abbrev pub is_application : ExprTree → Bool
@@ -69,8 +56,6 @@ is_application _ = false
 
 -- whether the statement has a meaning by itself: each kind has one
 abbrev pub is_plain : StmtTree → Bool
-is_plain (assign target value place) = is_writable target
-is_plain (assign_together assignments place) = are_writable assignments
 is_plain (call application place) = is_application application
 is_plain statement = true
 

@@ -14,6 +14,9 @@ use Rattle.abstract_syntax.specs.Expressions.{
   literal,
   named,
   qualified,
+  old_value,
+  self_object,
+  current_time,
   undefined,
   result_value,
   bracketed,
@@ -34,10 +37,15 @@ use Rattle.abstract_syntax.specs.Expressions.{
   is_of_type,
   is_of_named,
   is_of_basic,
+  is_of_class,
+  is_of_base_class,
+  same_class,
+  same_base_class,
   create,
   apply,
   subsequence,
   select,
+  select_of_class,
   select_part,
   let_in,
   let_be,
@@ -115,6 +123,9 @@ abbrev pub parts : ExprTree → List ExprTree
 parts (literal value place) = []
 parts (named name place) = []
 parts (qualified class name name_place place) = []
+parts (old_value name place) = []
+parts (self_object place) = []
+parts (current_time place) = []
 parts (undefined place) = []
 parts (result_value place) = []
 parts (bracketed inner place) = inner ∷ []
@@ -135,10 +146,15 @@ parts (modify_record target fields place) = target ∷ field_values_in fields
 parts (is_of_type tested declared place) = tested ∷ []
 parts (is_of_named type_name tested place) = tested ∷ []
 parts (is_of_basic basic tested place) = tested ∷ []
+parts (is_of_class class class_place tested place) = tested ∷ []
+parts (is_of_base_class class class_place tested place) = tested ∷ []
+parts (same_class left right place) = left ∷ right ∷ []
+parts (same_base_class left right place) = left ∷ right ∷ []
 parts (create class class_place arguments place) = exprs_in arguments
 parts (apply head arguments place) = head ∷ exprs_in arguments
 parts (subsequence target first last place) = target ∷ first ∷ last ∷ []
 parts (select target name name_place place) = target ∷ []
+parts (select_of_class target class class_place name name_place place) = target ∷ []
 parts (select_part target number place) = target ∷ []
 parts (let_in definitions body place) = definitions_in definitions ++ (body ∷ [])
 parts (let_be bind condition body place) = bind_parts bind ++ (maybe_in condition ++ (body ∷ []))

@@ -3,4 +3,4 @@
 
 mod nodes;
 
-pub use nodes::{expr_first, in_arguments, in_print, left_out_here, unbuilt_of_io, unless};
+pub use nodes::{left_out_here, unless};

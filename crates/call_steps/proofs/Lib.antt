@@ -1,1 +1,6 @@
-pub mod Fitting
+pub mod Coming
+pub mod Items
+pub mod Leaving
+pub mod Passing
+pub mod Requests
+pub mod Waits

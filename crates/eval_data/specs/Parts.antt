@@ -15,6 +15,7 @@ use Rattle.vdm_tree.specs.ClassView.{function_view}
 use Rattle.node_meaning.specs.Functions.{Applying as MeantApplying}
 use Rattle.node_meaning.specs.Records.{field_exprs}
 use Rattle.node_meaning.specs.Wanted.{Wanted as MeantWanted, a_value, no_value}
+use Rattle.node_meaning.specs.ClassTests.{ClassTest as MeantClassTest, in_class, in_base_class, one_class, one_base_class}
 use Rattle.node_meaning.specs.Choosing.{Chooser as MeantChooser, collects, for_each, for_some, for_one, the_one, takes_first, finds, Search as MeantSearch}
 use Rattle.node_meaning.specs.Envs.{Locals, Nest as MeantNest, Held as MeantHeld, Here as MeantHere}
 use Rattle.node_meaning.specs.Matching.{exprs_of}
@@ -27,6 +28,8 @@ use Rattle.eval_data.specs.declared.chooser.Chooser.{Chooser}
 use Rattle.eval_data.specs.declared.chooser.Chooser.TheVariants.{Collects, ForEach, ForSome, ForOne, TheOne, TakesFirst, Finds}
 use Rattle.eval_data.specs.declared.chooser.Elements.{Elements}
 use Rattle.eval_data.specs.declared.chooser.Elements.TheVariants.{One as OneElement, Two as TwoElements}
+use Rattle.eval_data.specs.declared.class_test.ClassTest.{ClassTest}
+use Rattle.eval_data.specs.declared.class_test.ClassTest.TheVariants.{InClass, InBaseClass, OneClass, OneBaseClass}
 use Rattle.eval_data.specs.declared.flow.Flow.{Flow}
 use Rattle.eval_data.specs.declared.flow.Flow.TheVariants.{Gave, Next, Returned, Exited}
 use Rattle.eval_data.specs.declared.here.Held.{Held}
@@ -73,8 +76,8 @@ flow_of (Exited v from) locals = exited v from locals
 
 abbrev pub need_of : Need → MeantNeed
 need_of (Read object var) = reads object var
-need_of (Call object class op args) = calls object class op args
-need_of (New class args) = creates class args
+need_of (Call object class op args places) = calls object class op args places.items
+need_of (New class args places) = creates class args places.items
 need_of (Print text) = prints text
 need_of Time = tells_time
 
@@ -91,6 +94,12 @@ strict_of Token = a_token
 strict_of Subsequence = a_subsequence
 strict_of (Component number) = a_component number
 
+abbrev pub class_test_of : ClassTest → MeantClassTest
+class_test_of (InClass class) = in_class class
+class_test_of (InBaseClass class) = in_base_class class
+class_test_of OneClass = one_class
+class_test_of OneBaseClass = one_base_class
+
 -- the expressions that references lead to
 abbrev pub boxed_list : List (Bor (Box Expr Global)) → List ExprTree
 boxed_list = map (λ (e : Bor (Box Expr Global)). boxed_view e.now)
@@ -100,7 +109,7 @@ parts_of NoParts = no_exprs
 parts_of (One a) = one_expr (boxed_view a.now) no_exprs
 parts_of (Two a b) = one_expr (boxed_view a.now) (one_expr (boxed_view b.now) no_exprs)
 parts_of (Three a b c) = one_expr (boxed_view a.now) (one_expr (boxed_view b.now) (one_expr (boxed_view c.now) no_exprs))
-parts_of (Items items) = expr_trees (views_of items.now)
+parts_of (Items items from) = expr_trees (drop from (views_of items.now.items))
 parts_of (Maplets maplets) = maplet_exprs (maplet_trees (map maplet_view maplets.now))
 parts_of (MapletValue held maplets) = one_expr (boxed_view held.now) (maplet_exprs (maplet_trees (map maplet_view maplets.now)))
 parts_of (Changes changes) = field_exprs (field_value_trees (map field_value_view changes.now))

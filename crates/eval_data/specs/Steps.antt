@@ -3,7 +3,7 @@ use Rattle.std.specs.Prelude.{ℕ, ◌+◌, List, [], ◌∷◌, map, drop, slic
 use Rattle.class_meaning.specs.Classes.{nowhere}
 use Rattle.vdm_kinds.specs.declared.place.Place.{Place}
 use Rattle.abstract_syntax.specs.Classes.{InvariantTree, SpecTree}
-use Rattle.abstract_syntax.specs.Expressions.{ExprTree, undefined, PatternTree, no_exprs, one_expr}
+use Rattle.abstract_syntax.specs.Expressions.{ExprTree, ExprTrees, undefined, PatternTree, no_exprs, one_expr}
 use Rattle.abstract_syntax.specs.Values.{ValueTree}
 use Rattle.expr_tree.specs.View.{view_of, boxed_view, maybe_view, expr_trees, views_of, pattern_view, pattern_views, pattern_trees, branch_view, branch_trees, case_view, case_trees, defined_view, defined_trees, field_value_view, field_value_trees}
 use Rattle.plans.specs.Plans.{finish, become, part, bind}
@@ -15,13 +15,14 @@ use Rattle.type_tree.specs.TypeView.{type_views}
 use Rattle.expr_tree.specs.TypeDefView.{field_view, invariant_view}
 use Rattle.vdm_tree.specs.ClassView.{function_view}
 use Rattle.vdm_kinds.specs.declared.run_fault.RunFault.TheVariants.{NoMatch}
-use Rattle.node_meaning.specs.Wanted.{given}
+use Rattle.node_meaning.specs.Wanted.{Wanted, given}
+use Rattle.node_meaning.specs.ClassTests.{class_told}
 use Rattle.node_meaning.specs.Choosing.{by_truth, next_choice, choose, with_elements, sets_of, behind_sets, search_with}
 use Rattle.node_meaning.specs.Envs.{Locals, Here as MeantHere, outside, at}
 use Rattle.node_meaning.specs.Fitting.{descends, typed_maybe, fit_then, if_fits, as_answer, by_holding, arguments_typed}
 use Rattle.node_meaning.specs.Functions.{applied, begun, bound, pre_decided, post_decided, post_of, result_given, value_given}
 use Rattle.node_meaning.specs.Records.{field_names, fields_typed, record_changed, record_made, record_value}
-use Rattle.node_meaning.specs.Expressions.{called_through, no_such_call, selected, fit_value, right_truth, truth, branch, branches, within, no_match, defined, patterns_met, cases_met}
+use Rattle.node_meaning.specs.Expressions.{places_of, call_asked, called_through, called_of_class, creation_asked, looked_up_in, no_such_call, selected, selected_of_class, fit_value, right_truth, truth, branch, branches, within, no_match, defined, patterns_met, cases_met}
 use Rattle.node_meaning.specs.Matching.{decided as condition, on_truth, met, meets}
 use Rattle.node_meaning.specs.Needs.{Setting, asked}
 use Rattle.node_meaning.specs.Strict.{one_operand, two_operands, with_others, make}
@@ -31,11 +32,11 @@ use Rattle.eval_data.specs.declared.asking.Verdict.{Verdict}
 use Rattle.eval_data.specs.declared.asking.Verdict.TheVariants.{Passes, Answers}
 use Rattle.eval_data.specs.declared.collecting.Collecting.{Collecting}
 use Rattle.eval_data.specs.declared.collecting.Then.{Then}
-use Rattle.eval_data.specs.declared.collecting.Then.TheVariants.{Make, Meets, Searches, NextChoice, Applies, Binds, Record, Changes, NoSuchCall, Invariant as MeetsInvariant}
+use Rattle.eval_data.specs.declared.collecting.Then.TheVariants.{Make, Classes, Meets, Searches, NextChoice, Applies, Binds, Record, Changes, Calls, NoSuchCall, Creates, Invariant as MeetsInvariant}
 use Rattle.eval_data.specs.declared.fitting.Filling.{Filling}
 use Rattle.eval_data.specs.declared.fitting.Passing.{Passing}
 use Rattle.eval_data.specs.declared.frame.After.{After as AfterNeed}
-use Rattle.eval_data.specs.declared.frame.After.TheVariants.{Value as ValueOf, Given}
+use Rattle.eval_data.specs.declared.frame.After.TheVariants.{Value as ValueOf, Given, LooksUp}
 use Rattle.eval_data.specs.declared.frame.Frame.{Frame}
 use Rattle.eval_data.specs.declared.frame.Frame.TheVariants.{With, After, Cut}
 use Rattle.eval_data.specs.declared.frame.Level.{Level}
@@ -48,9 +49,11 @@ use Rattle.eval_data.specs.declared.matching.Met.TheVariants.{Definition, Case}
 use Rattle.eval_data.specs.declared.matching.MetCase.{MetCase}
 use Rattle.eval_data.specs.declared.search.Search.{Search}
 use Rattle.eval_data.specs.declared.search.Sets.{Sets}
+use Rattle.eval_data.specs.declared.selected.Selected.{Selected}
+use Rattle.eval_data.specs.declared.selected.Selected.TheVariants.{Member, OfClass}
 use Rattle.eval_data.specs.declared.step.Step.{Step}
 use Rattle.eval_data.specs.declared.step.Step.TheVariants.{Finish, Fail, Part, Become, Test, Need}
-use Rattle.eval_data.specs.Parts.{wanted_of, nest_of, here_of, flow_of, need_of, strict_of, parts_of, chooser_of, patterns_at, search_of, first_choice, sources_from, applying_of, maybe_type, asked_type}
+use Rattle.eval_data.specs.Parts.{wanted_of, nest_of, here_of, flow_of, need_of, strict_of, class_test_of, parts_of, chooser_of, patterns_at, search_of, first_choice, sources_from, applying_of, maybe_type, asked_type}
 
 -- ---- patterns
 
@@ -135,7 +138,7 @@ invariant_met spec a invariant here place v =
 -- the arguments that are left are tested, and then the function begins
 abbrev pub arguments_left : SpecTree → Passing → Locals → Code
 arguments_left spec p =
-    arguments_typed spec (nest_of p.nest) (Some p.op.class) (type_views p.types.now) (expr_trees (views_of p.arguments.now)) (drop p.tested p.values)
+    arguments_typed spec (nest_of p.nest) (Some p.op.class) (type_views p.types.now) (expr_trees (drop p.tested (views_of p.arguments.now.items))) (drop p.tested p.values)
     (begun spec p.op.class (function_view p.function.now) p.place (nest_of p.nest) p.values)
 
 -- the values of the fields that are left are tested, and then the record is made
@@ -146,21 +149,39 @@ fields_left spec f place =
 
 -- ---- what is done with values
 
-abbrev pub then_of : SpecTree → Then → MeantHere → Place → List ValueTree → Locals → Code
-then_of spec (Make what) here place = make (strict_of what) place
-then_of spec (Meets v m) here place = met_with spec m place v
-then_of spec (Searches lists patterns chooser) here place = search_with spec here place (patterns_at patterns.items) (chooser_of chooser) lists.items
-then_of spec (NextChoice search) here place = next_choice (search_of search.value) (choose_behind spec search.value 0)
-then_of spec (Applies ref arguments) here place = applied spec ref place here.nest (expr_trees (views_of arguments.now))
-then_of spec (Binds a vs) here place = bound spec (applying_of a.value) vs
-then_of spec (Record t) here place = record_made spec here.nest here.scope t place
-then_of spec (Changes changes) here place = record_changed spec here.nest (field_names (field_value_trees (map field_value_view changes.now))) place
-then_of spec NoSuchCall here place = no_such_call place
-then_of spec (MeetsInvariant a invariant v) here place = invariant_met spec a.value (invariant_view invariant.now) here place v
+abbrev pub then_of : Setting → Then → MeantHere → Place → List ValueTree → Locals → Code
+then_of setting (Make what) here place = make (strict_of what) place
+then_of setting (Classes test) here place = class_told setting.spec (class_test_of test)
+then_of setting (Meets v m) here place = met_with setting.spec m place v
+then_of setting (Searches lists patterns chooser) here place =
+    search_with setting.spec here place (patterns_at patterns.items) (chooser_of chooser) lists.items
+then_of setting (NextChoice search) here place = next_choice (search_of search.value) (choose_behind setting.spec search.value 0)
+then_of setting (Applies ref arguments) here place = applied setting.spec ref place here.nest (expr_trees (views_of arguments.now.items))
+then_of setting (Binds a vs) here place = bound setting.spec (applying_of a.value) vs
+then_of setting (Record t) here place = record_made setting.spec here.nest here.scope t place
+then_of setting (Changes changes) here place =
+    record_changed setting.spec here.nest (field_names (field_value_trees (map field_value_view changes.now))) place
+then_of setting (Calls number own op arguments wanted) here place =
+    call_asked setting number own op (places_of (expr_trees (views_of arguments.now.items))) place (wanted_of wanted)
+then_of setting NoSuchCall here place = no_such_call place
+then_of setting (Creates class arguments) here place = creation_asked setting class (places_of (expr_trees (views_of arguments.now.items))) place
+then_of setting (MeetsInvariant a invariant v) here place = invariant_met setting.spec a.value (invariant_view invariant.now) here place v
 
 -- a value behind those that came
-abbrev pub collect : SpecTree → Collecting → ValueTree → Locals → Code
-collect spec c = with_others (here_of c.here) c.place (parts_of c.rest) c.done.items (then_of spec c.then (here_of c.here) c.place)
+abbrev pub collect : Setting → Collecting → ValueTree → Locals → Code
+collect setting c = with_others (here_of c.here) c.place (parts_of c.rest) c.done.items (then_of setting c.then (here_of c.here) c.place)
+
+-- ---- what is selected
+
+abbrev pub called_selected : Setting → MeantHere → Selected → ExprTrees → Place → Place → Wanted → ValueTree → Locals → Code
+called_selected setting here (Member name) arguments dot place wanted = called_through setting here name arguments dot place wanted
+called_selected setting here (OfClass class name) arguments dot place wanted = called_of_class setting here class name arguments dot place wanted
+
+abbrev pub read_selected : Setting → Place → Selected → ValueTree → Locals → Code
+read_selected setting place (Member name) = selected setting place name
+read_selected setting place (OfClass class name) = selected_of_class setting place class name
+
+-- ---- what is done with a value
 
 abbrev pub truth_use : SpecTree → TruthUse → Place → Bool → Locals → Code
 truth_use spec (Branch here tree more otherwise) place =
@@ -178,11 +199,11 @@ use_of setting (Operand operator) place = with_others outside place no_exprs [] 
 use_of setting (RightOperand here right operator) place =
     with_others (here_of here) place (one_expr (boxed_view right.now) no_exprs) [] (make (two_operands operator) place)
 use_of setting (Operator operator left) place = with_others outside place no_exprs (left ∷ []) (make (two_operands operator) place)
-use_of setting (Collect c) place = collect setting.spec c.value
+use_of setting (Collect c) place = collect setting c.value
 use_of setting (Truth truth_for) place = on_truth place (truth_use setting.spec truth_for place)
-use_of setting (CallThrough here name arguments dot wanted) place =
-    called_through setting (here_of here) name (expr_trees (views_of arguments.now)) dot place (wanted_of wanted)
-use_of setting (Select name) place = selected setting place name
+use_of setting (CallThrough here what arguments dot wanted) place =
+    called_selected setting (here_of here) what (expr_trees (views_of arguments.now.items)) dot place (wanted_of wanted)
+use_of setting (Select what) place = read_selected setting place what
 use_of setting (Asked nest scope t) place = fit_value setting.spec (nest_of nest) scope (asked_type place t) place
 use_of setting (Defined here declared d) place =
     typed_maybe setting.spec (here_of here).nest (here_of here).scope (maybe_type declared) place (meets_with setting.spec (Definition here d) place)
@@ -202,6 +223,7 @@ use_of setting (FieldFits f) place = λ v. fields_left setting.spec f.value plac
 abbrev pub after_need : AfterNeed → Place → MeantFlow → Code
 after_need ValueOf place = with_value place value
 after_need (Given wanted) place = given (wanted_of wanted) place
+after_need (LooksUp here arguments applied) place = with_value place (looked_up_in (here_of here) (expr_trees (views_of arguments.now.items)) applied)
 
 abbrev pub frame_then : Setting → Frame → MeantFlow → Code
 frame_then setting (With used place) = with_value place (use_of setting used place)
@@ -221,3 +243,12 @@ code_of setting locals (Test test) =
     (frame_then setting test.value.outer)
 code_of setting locals (Become here tree) = become (expr_in (at (here_of here) locals) (view_of tree.now))
 code_of setting locals (Need need place after) = asked setting (need_of need) place locals (after_need after place)
+
+-- whether a step is done at once or has one part: it begins no test of a value and no node in another's stead, and needs nothing
+abbrev pub IsLight : Step → Type 0
+IsLight (Finish flow) = Unit {0}
+IsLight (Fail kind place) = Unit {0}
+IsLight (Part here tree frame) = Unit {0}
+IsLight (Test test) = ⊥
+IsLight (Become here tree) = ⊥
+IsLight (Need need place after) = ⊥

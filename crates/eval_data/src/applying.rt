@@ -1,5 +1,7 @@
 // Functions that are being applied, and class values that are being evaluated.
 
+ghost use Rattle.std.specs.Prelude.{◌≡◌};
+
 use crate::nest::Nest;
 use type_tree::TypeExpr;
 use vdm_kinds::{Name, Place};
@@ -7,7 +9,6 @@ use vdm_tree::FunctionDef;
 use vdm_values::Slot;
 
 /// A function that is being applied.
-#[derive(Drop)]
 pub struct Applying<'t> {
     /// The class in which it is defined.
     pub class: Name,
@@ -20,8 +21,20 @@ pub struct Applying<'t> {
     pub outer: Vec<(Name, Slot)>,
 }
 
+// By hand, so that whoever drops it calls this, and does not prove again the dropping of all that is in it.
+impl<'t> Drop for Applying<'t> {
+    fn drop(self) {
+        let Applying {
+            class: _,
+            function: _,
+            place: _,
+            nest: _,
+            outer: _,
+        } = self;
+    }
+}
+
 /// A class value that is being evaluated where it is named.
-#[derive(Drop)]
 pub struct Naming<'t> {
     /// The class in which it is defined.
     pub class: Name,
@@ -31,4 +44,46 @@ pub struct Naming<'t> {
     pub nest: Nest,
     /// The locals of the node that names it, which it does not see.
     pub outer: Vec<(Name, Slot)>,
+}
+
+impl<'t> Drop for Naming<'t> {
+    fn drop(self) {
+        let Naming {
+            class: _,
+            declared: _,
+            nest: _,
+            outer: _,
+        } = self;
+    }
+}
+
+impl<'t> Applying<'t> {
+    /// The locals of the node that applies it.
+    pub fn into_outer(self) -> Vec<(Name, Slot)>
+        ensures { result ≡ self.entry.outer }
+    {
+        let Applying {
+            class: _,
+            function: _,
+            place: _,
+            nest: _,
+            outer,
+        } = self;
+        outer
+    }
+}
+
+impl<'t> Naming<'t> {
+    /// The locals of the node that names it.
+    pub fn into_outer(self) -> Vec<(Name, Slot)>
+        ensures { result ≡ self.entry.outer }
+    {
+        let Naming {
+            class: _,
+            declared: _,
+            nest: _,
+            outer,
+        } = self;
+        outer
+    }
 }

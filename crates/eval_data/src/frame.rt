@@ -9,6 +9,7 @@ use crate::here::Here;
 use crate::matching::MetDefinition;
 use crate::nest::Nest;
 use crate::search::{Search, Sets};
+use crate::selected::Selected;
 use crate::wanted::Wanted;
 use expr_tree::{Branch, Case, Expr};
 use type_tree::TypeExpr;
@@ -47,11 +48,11 @@ pub enum Use<'t> {
     Collect(Box<Collecting<'t>>),
     /// It has to be a truth value.
     Truth(TruthUse<'t>),
-    /// It is the value whose member of this name is applied: an operation of an object, or a field of a record. The first place is
-    /// that of the selection.
-    CallThrough(Here<'t>, Name, &'t [Expr], Place, Wanted),
-    /// It is the value whose member of this name is selected.
-    Select(Name),
+    /// It is the value whose member is applied: an operation of an object, or a field of a record. The first place is that of the
+    /// selection.
+    CallThrough(Here<'t>, Selected, &'t Vec<Expr>, Place, Wanted),
+    /// It is the value whose member is selected.
+    Select(Selected),
     /// It is asked whether it fits a type, from a class or from none.
     Asked(Nest, Option<Name>, AskedType<'t>),
     /// It is what a definition gives, with a type where one is given.
@@ -76,11 +77,13 @@ pub enum Use<'t> {
 
 /// What is done with what comes of a need.
 #[derive(Clone, Copy)]
-pub enum After {
+pub enum After<'t> {
     /// It is the value of the node.
     Value,
     /// It is what a call gave.
     Given(Wanted),
+    /// It is looked up in by an application at the place.
+    LooksUp(Here<'t>, &'t Vec<Expr>, Place),
 }
 
 /// What is done with what comes of a part.
@@ -89,7 +92,7 @@ pub enum Frame<'t> {
     /// A value is wanted, and used; the place is that of a fault.
     With(Use<'t>, Place),
     /// It came of a need of the node at the place.
-    After(After, Place),
+    After(After<'t>, Place),
     /// The locals that were bound for it go.
     Cut(usize),
 }

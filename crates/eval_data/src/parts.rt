@@ -9,7 +9,7 @@ pub enum Parts<'t> {
     One(&'t Box<Expr>),
     Two(&'t Box<Expr>, &'t Box<Expr>),
     Three(&'t Box<Expr>, &'t Box<Expr>, &'t Box<Expr>),
-    Items(&'t [Expr]),
+    Items(&'t Vec<Expr>, usize),
     Maplets(&'t [Maplet]),
     /// The value of a key, and the pairs behind it.
     MapletValue(&'t Box<Expr>, &'t [Maplet]),

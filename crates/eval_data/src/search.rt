@@ -9,7 +9,6 @@ use vdm_values::{Value, ValueList};
 
 /// A search among choices: patterns with the values of the expressions in brackets in them, the choices that are left, and what
 /// was collected so far.
-#[derive(Drop)]
 pub struct Search<'t> {
     pub here: Here<'t>,
     pub place: Place,
@@ -22,6 +21,22 @@ pub struct Search<'t> {
     pub done: Vec<Value>,
 }
 
+// By hand, so that whoever drops it calls this, and does not prove again the dropping of all that is in it.
+impl<'t> Drop for Search<'t> {
+    fn drop(self) {
+        let Search {
+            here: _,
+            place: _,
+            count: _,
+            patterns: _,
+            given: _,
+            chooser: _,
+            choices: _,
+            done: _,
+        } = self;
+    }
+}
+
 /// Where elements come from: the expression of a bind, and how many patterns it has.
 #[derive(Clone, Copy)]
 pub struct Source<'t> {
@@ -30,7 +45,6 @@ pub struct Source<'t> {
 }
 
 /// The sets of binds: those that came, and where the others come from, of which the one at `at` is being evaluated.
-#[derive(Drop)]
 pub struct Sets<'t> {
     pub here: Here<'t>,
     pub place: Place,
@@ -39,4 +53,18 @@ pub struct Sets<'t> {
     pub lists: Vec<ValueList>,
     pub patterns: Vec<&'t Pattern>,
     pub chooser: Chooser<'t>,
+}
+
+impl<'t> Drop for Sets<'t> {
+    fn drop(self) {
+        let Sets {
+            here: _,
+            place: _,
+            sources: _,
+            at: _,
+            lists: _,
+            patterns: _,
+            chooser: _,
+        } = self;
+    }
 }

@@ -29,7 +29,7 @@ pub enum Step<'t> {
     /// A part of the test of a value, with what is done behind it.
     Test(Box<TestPart<'t>>),
     /// Something is needed for the node at the place; and what is done with what comes of it.
-    Need(Need, Place, After),
+    Need(Need, Place, After<'t>),
 }
 
 impl<'t> Step<'t> {

@@ -36,7 +36,7 @@ impl<'t> Frame<'t> {
         done: Vec<Value>,
         then: Then<'t>,
     ) -> Result<Frame<'t>, OutOfMemory>
-        ensures { IfOk result (λ f. (setting : Setting) → frame_then setting f ≡ with_value place (with_others (here_of here.entry) place (parts_of rest.entry) done.items (then_of setting.spec then.entry (here_of here.entry) place))) }
+        ensures { IfOk result (λ f. (setting : Setting) → frame_then setting f ≡ with_value place (with_others (here_of here.entry) place (parts_of rest.entry) done.items (then_of setting then.entry (here_of here.entry) place))) }
     {
         let collecting = Collecting {
             here,

@@ -3,7 +3,7 @@
 ghost use Rattle.std.specs.Prelude.{◌≡◌, IfOk};
 ghost use Rattle.node_meaning.specs.Envs.{Locals};
 ghost use Rattle.node_meaning.specs.Wanted.{a_value};
-ghost use Rattle.node_meaning.specs.Expressions.{application, expr_plan};
+ghost use Rattle.node_meaning.specs.Expressions.{application, created_with, expr_plan};
 ghost use Rattle.node_meaning.specs.Needs.{Asker, Setting};
 ghost use Rattle.node_meaning.specs.Expressions.{bare_call as bare_call_plan};
 ghost use Rattle.expr_tree.specs.View.{boxed_view, expr_trees, view_of, views_of};
@@ -37,29 +37,13 @@ pub(crate) fn called<'t>(
 {
     match tree {
         Expr::Apply(head, arguments, place) => {
-            applied(
-                alloc,
-                table,
-                locals,
-                here,
-                head,
-                arguments.as_slice(),
-                *place,
-            )
+            applied(alloc, table, locals, here, head, arguments, *place)
         }
         Expr::MakeRecord(name, arguments, place) => {
-            make_record(
-                alloc,
-                table,
-                locals,
-                here,
-                *name,
-                arguments.as_slice(),
-                *place,
-            )
+            make_record(alloc, table, locals, here, *name, arguments, *place)
         }
         Expr::New(class, _, arguments, place) => {
-            Ok(created(alloc, *class, arguments.as_slice(), *place))
+            made(alloc, table, locals, here, *class, arguments, *place)
         }
         _ => Ok(Step::Fail(RunFault::Undefined, tree.place())),
     }
@@ -72,10 +56,10 @@ fn applied<'t>(
     locals: &mut Vec<(Name, Slot)>,
     here: Here<'t>,
     head: &'t Box<Expr>,
-    arguments: &'t [Expr],
+    arguments: &'t Vec<Expr>,
     place: Place,
 ) -> Result<Step<'t>, OutOfMemory>
-    ensures { IfOk result (λ s. (asker : Asker) → code_of (set table.now asker) locals.new.items s ≡ application (set table.now asker) (here_of here.entry) (boxed_view head.now) (expr_trees (views_of arguments.now)) place a_value locals.old.items) }
+    ensures { IfOk result (λ s. (asker : Asker) → code_of (set table.now asker) locals.new.items s ≡ application (set table.now asker) (here_of here.entry) (boxed_view head.now) (expr_trees (views_of arguments.now.items)) place a_value locals.old.items) }
 {
     let gathered = application(
         alloc,
@@ -87,6 +71,22 @@ fn applied<'t>(
         place,
         Wanted::Value,
     )?;
+    behind(alloc, table, locals, gathered)
+}
+
+/// A new object.
+fn made<'t>(
+    alloc: Global,
+    table: &'t ClassTable,
+    locals: &mut Vec<(Name, Slot)>,
+    here: Here<'t>,
+    class: Name,
+    arguments: &'t Vec<Expr>,
+    place: Place,
+) -> Result<Step<'t>, OutOfMemory>
+    ensures { IfOk result (λ s. (asker : Asker) → code_of (set table.now asker) locals.new.items s ≡ created_with (set table.now asker) (here_of here.entry) (expr_trees (views_of arguments.now.items)) class place locals.old.items) }
+{
+    let gathered = created(alloc, here, class, arguments, place)?;
     behind(alloc, table, locals, gathered)
 }
 

@@ -40,7 +40,7 @@ pub fn expression<'t>(
         Topic::Plain => plain(alloc, here, tree),
         Topic::Calls => called(alloc, table, locals, here, tree),
         Topic::Selections => Ok(selected(here, tree)),
-        Topic::Tests => Ok(tested(here, tree)),
+        Topic::Tests => tested(alloc, here, tree),
         Topic::Inside => searched(alloc, table, locals, here, tree),
         Topic::Choices => chosen(alloc, locals, here, tree),
         Topic::Parts => parts(alloc, here, tree),

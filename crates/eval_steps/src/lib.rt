@@ -1,6 +1,11 @@
 //! What each node of an expression does, and what is done with what comes of its parts.
 #![tactic(auto)]
 
+/// A crate below that is handed on.
+pub mod handed {
+    pub use name_steps;
+}
+
 mod called;
 mod chosen;
 mod dispatch;

@@ -14,13 +14,13 @@ ghost use Rattle.expr_topics.specs.declared.topic.Topic.TheVariants.{Names};
 
 use eval_data::{Here, Step};
 use expr_tree::Expr;
-use name_steps::{name, qualified, result_value};
+use name_steps::{name, old_value, qualified, result_value, self_value, time_told};
 use spec_table::ClassTable;
 use std::alloc::Global;
 use vdm_kinds::{Name, OutOfMemory, RunFault};
 use vdm_values::Slot;
 
-/// What such a node does; so far the others of these have no meaning.
+/// What such a node does; so far counters have no meaning.
 pub(crate) fn named<'t>(
     alloc: Global,
     table: &'t ClassTable,
@@ -36,6 +36,9 @@ pub(crate) fn named<'t>(
         Expr::Qualified(class, found, _, place) => {
             qualified(alloc, table, locals, here, *class, *found, *place)
         }
+        Expr::Old(found, place) => old_value(alloc, locals.as_slice(), *found, *place),
+        Expr::SelfObject(place) => Ok(self_value(here, *place)),
+        Expr::Time(place) => Ok(time_told(here, *place)),
         Expr::Result(place) => result_value(alloc, locals.as_slice(), *place),
         _ => Ok(Step::Fail(RunFault::Undefined, tree.place())),
     }

@@ -1,6 +1,6 @@
 // Tests of types and classes.
 
-ghost use Rattle.std.specs.Prelude.{◌≡◌};
+ghost use Rattle.std.specs.Prelude.{◌≡◌, IfOk};
 ghost use Rattle.node_meaning.specs.Envs.{Locals};
 ghost use Rattle.node_meaning.specs.Expressions.{expr_plan, fit_value};
 ghost use Rattle.node_meaning.specs.Needs.{Setting};
@@ -11,23 +11,37 @@ ghost use Rattle.eval_data.specs.Parts.{asked_type, here_of};
 ghost use Rattle.eval_data.specs.Steps.{code_of};
 ghost use Rattle.expr_topics.specs.declared.topic.Topic.TheVariants.{Tests};
 
-use eval_data::{AskedType, Frame, Here, Step, Use};
+use eval_data::{AskedType, ClassTest, Frame, Here, Parts, Step, Use};
 use expr_tree::Expr;
-use vdm_kinds::{Place, RunFault};
+use std::alloc::Global;
+use value_steps::class_tested;
+use vdm_kinds::{OutOfMemory, Place, RunFault};
 
-/// What such a node does. So far nothing is tested by its class.
-pub(crate) fn tested<'t>(here: Here<'t>, tree: &'t Expr) -> Step<'t>
+/// What such a node does.
+pub(crate) fn tested<'t>(
+    alloc: Global,
+    here: Here<'t>,
+    tree: &'t Expr,
+) -> Result<Step<'t>, OutOfMemory>
     requires { topic_of (view_of tree.now) ≡ Tests }
-    ensures { (setting : Setting) (locals : Locals) → code_of setting locals result ≡ expr_plan setting (here_of here.entry) locals (view_of tree.now) }
+    ensures { IfOk result (λ s. (setting : Setting) (locals : Locals) → code_of setting locals s ≡ expr_plan setting (here_of here.entry) locals (view_of tree.now)) }
 {
     match tree {
         Expr::IsOfType(tested, declared, place) => {
-            asked(here, tested, AskedType::Written(declared), *place)
+            Ok(asked(here, tested, AskedType::Written(declared), *place))
         }
         Expr::IsOfNamed(name, tested, place) => {
-            asked(here, tested, AskedType::Named(*name), *place)
+            Ok(asked(here, tested, AskedType::Named(*name), *place))
         }
-        _ => Step::Fail(RunFault::Undefined, tree.place()),
+        Expr::IsOfClass(class, _, tested, place) => {
+            let test = ClassTest::InClass(*class);
+            class_tested(alloc, here, test, *place, tested, Parts::None)
+        }
+        Expr::IsOfBaseClass(class, _, tested, place) => {
+            let test = ClassTest::InBaseClass(*class);
+            class_tested(alloc, here, test, *place, tested, Parts::None)
+        }
+        _ => Ok(Step::Fail(RunFault::Undefined, tree.place())),
     }
 }
 

@@ -28,7 +28,7 @@ pub fn then_of<'t>(
 {
     match frame {
         Frame::With(used, place) => with_value(alloc, table, locals, used, place, flow),
-        Frame::After(after, place) => Ok(after_need(after, place, flow)),
+        Frame::After(after, place) => after_need(alloc, after, place, flow),
         Frame::Cut(count) => Ok(cut(locals, count, flow)),
     }
 }

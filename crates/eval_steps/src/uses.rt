@@ -14,8 +14,8 @@ use function_steps::{
     applied, argument_fits, bound, post_decided, post_of, pre_decided, result_given, value_given,
 };
 use match_steps::{definition_fits, definition_met, met_with, subject_met};
-use name_steps::called_through;
-use record_steps::{field_fits, record_changed, record_made, selected};
+use name_steps::{call_asked, called_selected, class_told, creation_asked, selected};
+use record_steps::{field_fits, record_changed, record_made};
 use search_steps::{choice_decided, elements, next_choice, searches};
 use spec_table::ClassTable;
 use std::alloc::Global;
@@ -44,13 +44,13 @@ pub(crate) fn use_of<'t>(
         Use::Operator(operator, left) => operators(alloc, operator, place, left, value),
         Use::Collect(collecting) => collect(alloc, table, locals, collecting, value),
         Use::Truth(truth) => decide(alloc, table, locals, truth, place, value),
-        Use::CallThrough(here, name, arguments, dot, wanted) => {
-            let gathered = called_through(
-                alloc, table, here, name, arguments, dot, wanted, place, value,
+        Use::CallThrough(here, what, arguments, dot, wanted) => {
+            let gathered = called_selected(
+                alloc, table, here, what, arguments, dot, wanted, place, value,
             )?;
             behind(alloc, table, locals, gathered)
         }
-        Use::Select(name) => selected(alloc, table, name, place, value),
+        Use::Select(what) => selected(alloc, table, what, place, value),
         Use::Asked(nest, scope, wanted) => {
             fit_answer(alloc, table, locals, nest, scope, wanted, place, &value)
         }
@@ -82,7 +82,7 @@ fn collect<'t>(
     collecting: Box<Collecting<'t>>,
     value: Value,
 ) -> Result<Step<'t>, OutOfMemory>
-    ensures { IfOk result (λ s. (asker : Asker) → code_of (set table.now asker) locals.new.items s ≡ collect_plan (set table.now asker).spec collecting.entry.value value locals.old.items) }
+    ensures { IfOk result (λ s. (asker : Asker) → code_of (set table.now asker) locals.new.items s ≡ collect_plan (set table.now asker) collecting.entry.value value locals.old.items) }
 {
     let gathered = with_value(alloc, collecting, value)?;
     behind(alloc, table, locals, gathered)
@@ -115,10 +115,11 @@ fn all_came<'t>(
     values: Vec<Value>,
     then: Then<'t>,
 ) -> Result<Step<'t>, OutOfMemory>
-    ensures { IfOk result (λ s. (asker : Asker) → code_of (set table.now asker) locals.new.items s ≡ then_plan (set table.now asker).spec then.entry (here_of here.entry) place values.items locals.old.items) }
+    ensures { IfOk result (λ s. (asker : Asker) → code_of (set table.now asker) locals.new.items s ≡ then_plan (set table.now asker) then.entry (here_of here.entry) place values.items locals.old.items) }
 {
     match then {
         Then::Make(what) => make(alloc, what, place, values),
+        Then::Classes(test) => Ok(class_told(table, test, values)),
         Then::Meets(value, met) => met_with(alloc, table, locals, met, place, value, values),
         Then::Searches(lists, patterns, chooser) => {
             searches(
@@ -138,7 +139,13 @@ fn all_came<'t>(
         Then::Changes(changes) => {
             record_changed(alloc, table, locals, here.nest, changes, place, values)
         }
+        Then::Calls(number, own, op, arguments, wanted) => call_asked(
+            alloc, number, own, op, arguments, wanted, place, values,
+        ),
         Then::NoSuchCall => Ok(Step::Fail(RunFault::TypeFault, place)),
+        Then::Creates(class, arguments) => {
+            creation_asked(alloc, class, arguments, place, values)
+        }
         Then::Invariant(asking, invariant, value) => behind_brackets(
             alloc, table, locals, here, place, asking, invariant, value, values,
         ),

@@ -4,29 +4,24 @@ use Rattle.vdm_kinds.specs.declared.halt.Halt.{Halt}
 use Rattle.vdm_kinds.specs.declared.halt.OutOfMemory.{OutOfMemory}
 use Rattle.vdm_kinds.specs.declared.place.Place.{Place}
 use Rattle.vdm_kinds.specs.declared.run_fault.RunFault.{RunFault}
-use Rattle.vdm_values.specs.declared.slot.Slot.{Slot}
-use Rattle.vdm_values.specs.declared.slot.Slot.TheVariants.{Unset, Held}
 use Rattle.abstract_syntax.specs.Classes.{SpecTree}
 use Rattle.abstract_syntax.specs.Expressions.{ExprTree, expr_place}
 use Rattle.abstract_syntax.specs.Values.{ValueTree}
 use Rattle.run_journal.specs.declared.answer.Answer.{Answer}
 use Rattle.run_journal.specs.declared.answer.Answer.TheVariants.{Slot as Holds}
-use Rattle.plans.specs.Plans.{finish, fail, ask, part, become}
+use Rattle.plans.specs.Plans.{become}
 use Rattle.node_meaning.specs.Envs.{Locals, Here, at}
-use Rattle.node_meaning.specs.Needs.{Setting, slot_then}
-use Rattle.node_meaning.specs.Tasks.{expr_in, gave, needed, Code, placed}
+use Rattle.node_meaning.specs.Needs.{slot_then}
+use Rattle.node_meaning.specs.Tasks.{expr_in, needed, placed}
 use Rattle.spec_table.specs.Tables.{table_spec}
-use Rattle.eval_data.specs.declared.flow.Flow.TheVariants.{Gave}
 use Rattle.eval_data.specs.declared.frame.After.{After}
-use Rattle.eval_data.specs.declared.frame.After.TheVariants.{Value as ValueOf, Given}
 use Rattle.eval_data.specs.declared.frame.Level.{Level}
 use Rattle.eval_data.specs.declared.need.Need.{Need}
 use Rattle.eval_data.specs.declared.nest.Nest.{Nest}
 use Rattle.eval_data.specs.declared.step.Step.{Step}
 use Rattle.eval_data.specs.declared.step.Step.TheVariants.{Finish, Fail, Part, Test, Become, Need as NeedStep}
-use Rattle.eval_data.specs.declared.wanted.Wanted.TheVariants.{Value as ValueWanted, Nothing}
-use Rattle.eval_data.specs.Parts.{nest_of, need_of, flow_of}
-use Rattle.eval_data.specs.Steps.{after_need, code_of}
+use Rattle.eval_data.specs.Parts.{nest_of, need_of}
+use Rattle.eval_data.specs.Steps.{after_need, IsLight}
 use Rattle.expr_eval.specs.declared.doing.Doing.{Doing}
 use Rattle.expr_eval.specs.declared.env.Env.{Env}
 use Rattle.expr_eval.specs.declared.eval.Eval.{Eval}
@@ -35,7 +30,7 @@ use Rattle.expr_eval.specs.declared.eval.Reached.{Reached}
 use Rattle.expr_eval.specs.declared.eval.Reached.TheVariants.{Needs as ReachedNeed}
 use Rattle.expr_eval.specs.declared.turn.Turn.{Turn}
 use Rattle.expr_eval.specs.declared.turn.Turn.TheVariants.{Needs, Value, Fault}
-use Rattle.expr_eval.specs.Evaluations.{of_evaluator, Evaluated, stands, evaluation, here_in, locals_in, pure_fault, PureResult}
+use Rattle.expr_eval.specs.Evaluations.{Evaluated, stands, evaluation, here_in, locals_in, pure_fault, PureResult}
 use Rattle.expr_eval.specs.Turns.{stands_with, rest_at, rest, rests, Asks, Turned, pure_turn}
 use Rattle.expr_eval.specs.Weights.{weight, next_weight, rank}
 use Rattle.expr_eval.proofs.Resting.{asking-needs}
@@ -83,41 +78,21 @@ advanced (Err x) stood before e units same t = tt
 
 -- ---- a slot is given
 
--- code that is done
-abbrev IsDone : Code → Type 0
-IsDone (finish flow) = Unit {0}
-IsDone (fail f) = Unit {0}
-IsDone (ask query further) = ⊥
-IsDone (part task further) = ⊥
-IsDone (become task) = ⊥
+-- what is done with a slot weighs little
+light-low : (s : Step) → IsLight s → weight s ≤ 4
+light-low (Finish flow) light = omega arith
+light-low (Fail kind place) light = omega arith
+light-low (Part here tree frame) light = omega arith
+light-low (Test test) light = absurd light
+light-low (Become here tree) light = absurd light
+light-low (NeedStep need place after) light = absurd light
 
-done-need : (after : After) (place : Place) (slot : Slot) (locals : Locals) → IsDone (after_need after place (gave slot locals))
-done-need ValueOf place (Held v) locals = tt
-done-need ValueOf place Unset locals = tt
-done-need (Given ValueWanted) place (Held v) locals = tt
-done-need (Given ValueWanted) place Unset locals = tt
-done-need (Given Nothing) place slot locals = tt
-
-done-low : (spec : SpecTree) (locals : Locals) (s : Step) → IsDone (code_of (of_evaluator spec) locals s) → weight s ≤ 4
-done-low spec locals (Finish flow) h = omega arith
-done-low spec locals (Fail kind place) h = omega arith
-done-low spec locals (Part here tree frame) h = absurd h
-done-low spec locals (Test test) h = absurd h
-done-low spec locals (Become here tree) h = absurd h
-done-low spec locals (NeedStep need place after) h = absurd h
-
--- what is done with a slot is no need and no part
-answered-low : (spec : SpecTree) (after : After) (place : Place) (slot : Slot) (s : Step)
-    → ((setting : Setting) (locals : Locals) → code_of setting locals s ≡ after_need after place (flow_of (Gave slot) locals)) → weight s ≤ 4
-answered-low spec after place slot s h = done-low spec [] s (rw (h (of_evaluator spec) []) (done-need after place slot []))
-
-pub given-low : (old new : Eval) (spec : SpecTree) (nest : Nest) (after : After) (place : Place) (slot : Slot) (s : Step) (units : ℕ)
-    → old.next ≡ Waits nest after place → new ≡ record old { next = Does (record { nest = nest; step = s }) }
-    → ((setting : Setting) (locals : Locals) → code_of setting locals s ≡ after_need after place (flow_of (Gave slot) locals))
+pub given-low : (old new : Eval) (nest : Nest) (after : After) (place : Place) (s : Step) (units : ℕ)
+    → old.next ≡ Waits nest after place → new ≡ record old { next = Does (record { nest = nest; step = s }) } → IsLight s
     → rank new units < rank old units
-given-low old new spec nest after place slot s units waits e h =
+given-low old new nest after place s units waits e light =
     let n : rank new units ≡ rank (record old { next = Does (record { nest = nest; step = s }) }) units = ap (λ (m : Eval). rank m units) e in
-    omega (arith, answered-low spec after place slot s h, ap next_weight waits, n)
+    omega (arith, light-low s light, ap next_weight waits, n)
 
 -- ---- an expression that needs nothing
 

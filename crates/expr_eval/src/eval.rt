@@ -14,8 +14,8 @@ use crate::doing::Doing;
 use crate::env::Env;
 use crate::turn::Turn;
 use eval_data::{After, Flow, Here, Level, Need, Nest, Step, TestPart};
+use eval_steps::handed::name_steps::after_need;
 use expr_tree::Expr;
-use name_steps::after_need;
 use plans::take_unit;
 use spec_table::ClassTable;
 use std::alloc::Global;
@@ -27,7 +27,7 @@ use vdm_values::Slot;
 enum Next<'t> {
     Step(Doing<'t>),
     /// It waits for the slot that answers the need of the node at the place, inside of these tests of types.
-    Waits(Nest, After, Place),
+    Waits(Nest, After<'t>, Place),
     /// It gave a value or a fault.
     Over,
     /// It met want of memory.
@@ -62,9 +62,9 @@ impl<'t> Drop for Next<'t> {
 
 /// Where an evaluation can't go on by itself.
 #[derive(Drop)]
-enum Reached {
+enum Reached<'t> {
     /// The node at the place needs this, inside of these tests of types.
-    Needs(Need, Nest, Place, After),
+    Needs(Need, Nest, Place, After<'t>),
     Fails(RunFault, Place),
     /// This came of the whole expression.
     Gives(Flow),
@@ -138,7 +138,7 @@ impl<'t> Eval<'t> {
     }
 
     /// Takes the slot that answers the need.
-    pub fn give(&mut self, _alloc: Global, slot: Slot) -> Result<(), OutOfMemory>
+    pub fn give(&mut self, alloc: Global, slot: Slot) -> Result<(), OutOfMemory>
         requires { IsWaiting self.old }
         ensures goes_on { OnOk result ((answers : List Answer) (units : ℕ) → rest self.new answers units ≡ behind self.old slot answers units) }
         ensures ready { OnOk result (IsReady self.new) }
@@ -149,9 +149,16 @@ impl<'t> Eval<'t> {
         match &self.next {
             Next::Waits(nest, after, place) => {
                 let nest = *nest;
-                let step = after_need(*after, *place, Flow::Gave(slot));
-                self.set_next(Next::Step(Doing { nest, step }));
-                Ok(())
+                match after_need(alloc, *after, *place, Flow::Gave(slot)) {
+                    Ok(step) => {
+                        self.set_next(Next::Step(Doing { nest, step }));
+                        Ok(())
+                    }
+                    Err(OutOfMemory) => {
+                        self.set_next(Next::Spent);
+                        Err(OutOfMemory)
+                    }
+                }
             }
             Next::Step(_) | Next::Over | Next::Spent => Err(OutOfMemory),
         }
@@ -178,7 +185,7 @@ impl<'t> Eval<'t> {
         alloc: Global,
         fuel: &mut u64,
         doing: Doing<'t>,
-    ) -> Result<Reached, OutOfMemory>
+    ) -> Result<Reached<'t>, OutOfMemory>
         ensures same { IfOk result (λ r. (answers : List Answer) → rests self.new r answers fuel.new ≡ stands_with self.old doing.entry.nest doing.entry.step answers fuel.old) }
         ensures falls { IfOk result (λ r. load self.new.frames.items fuel.new (reached_weight r) < load self.old.frames.items fuel.old (weight doing.entry.step)) }
         ensures next { self.new.next ≡ self.old.next }
@@ -281,9 +288,9 @@ impl<'t> Eval<'t> {
     }
 
     /// Says how far the evaluation came, and waits for the slot or is over.
-    fn turn(&mut self, reached: Reached) -> Turn
-        ensures turned { (units : ℕ) → Turned result (λ answers. rests self.old reached answers units) self.new units }
-        ensures low { (units : ℕ) → rank self.new units ≡ load self.old.frames.items units (reached_weight reached) }
+    fn turn(&mut self, reached: Reached<'t>) -> Turn
+        ensures turned { (units : ℕ) → Turned result (λ answers. rests self.old reached.entry answers units) self.new units }
+        ensures low { (units : ℕ) → rank self.new units ≡ load self.old.frames.items units (reached_weight reached.entry) }
     {
         match reached {
             Reached::Needs(need, nest, place, after) => {

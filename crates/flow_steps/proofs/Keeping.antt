@@ -3,7 +3,8 @@ use Rattle.std.proofs.Common.{◌≡◌, ℕ, [], take, refl, ap}
 use Rattle.abstract_syntax.specs.Statements.{StmtTree}
 use Rattle.plans.specs.Plans.{finish, part}
 use Rattle.node_meaning.specs.Envs.{Here, Locals, at}
-use Rattle.stmt_meaning.specs.Handlers.{at_last, unless_replaced, with_locals}
+use Rattle.stmt_meaning.specs.Flows.{with_locals}
+use Rattle.stmt_meaning.specs.Handlers.{at_last, unless_replaced}
 use Rattle.node_meaning.specs.Tasks.{Flow as MeantFlow, gave, next, returned, exited, stmt_in}
 use Rattle.eval_data.specs.declared.flow.Flow.{Flow}
 use Rattle.eval_data.specs.declared.flow.Flow.TheVariants.{Gave, Next, Returned, Exited}

@@ -12,8 +12,8 @@ ghost use Rattle.eval_data.specs.Parts.{here_of, flow_of};
 ghost use Rattle.step_data.specs.Parts.{branches_left};
 ghost use Rattle.step_data.specs.Actions.{action_code, height};
 
-use crate::came::{Truth, truth_in};
 use eval_data::{Flow, Here};
+use flow_values::{Truth, truth_in};
 use step_data::{Action, Pending, Task, Waiting};
 use vdm_kinds::Place;
 use vdm_tree::{Stmt, StmtBranch};

@@ -3,11 +3,12 @@
 ghost use Rattle.std.specs.Prelude.{◌≡◌, ◌≤◌};
 ghost use Rattle.abstract_syntax.specs.Classes.{SpecTree};
 ghost use Rattle.node_meaning.specs.Envs.{Locals};
+ghost use Rattle.stmt_meaning.specs.Calls.{back as back_plan};
 ghost use Rattle.stmt_meaning.specs.Flows.{called as called_plan, unless_ended_at as unless_ended_plan, sequence as sequence_plan, return_value as return_plan};
 ghost use Rattle.node_meaning.specs.Tasks.{cut_to};
 ghost use Rattle.eval_data.specs.Parts.{here_of, flow_of};
 ghost use Rattle.step_data.specs.Parts.{statements_of};
-ghost use Rattle.step_data.specs.Actions.{action_code, height};
+ghost use Rattle.step_data.specs.Actions.{action_code, busy, height};
 
 use eval_data::{Flow, Here};
 use step_data::{Action, Pending, Task, Waiting};
@@ -62,6 +63,16 @@ pub fn cut<'t>(locals: &mut Vec<(Name, Slot)>, count: usize, flow: Flow) -> Acti
     ensures falls { height result ≤ 1 }
 {
     locals.truncate(count);
+    Action::Finish(flow)
+}
+
+/// What follows a call, however it was left: the locals are again those of the node that calls.
+pub fn back<'t>(locals: &mut Vec<(Name, Slot)>, saved: Vec<(Name, Slot)>, flow: Flow) -> Action<'t>
+    ensures same { (spec : SpecTree) → action_code spec locals.new.items result ≡ back_plan saved.items (flow_of flow locals.old.items) }
+    ensures busy { busy result ≤ 1 }
+    ensures falls { height result ≤ 1 }
+{
+    *locals = saved;
     Action::Finish(flow)
 }
 

@@ -2,11 +2,9 @@
 #![tactic(auto)]
 
 mod branches;
-mod came;
 mod following;
 mod leaving;
 
 pub use branches::branch_decided;
-pub use came::{Number, Truth, number_in, truth_in};
-pub use following::{called, cut, return_value, sequence, unless_ended};
+pub use following::{back, called, cut, return_value, sequence, unless_ended};
 pub use leaving::{at_last, exit_with, unless_replaced};

@@ -28,10 +28,10 @@ pub fn applied<'t>(
     op: OpRef,
     place: Place,
     nest: Nest,
-    arguments: &'t [Expr],
+    arguments: &'t Vec<Expr>,
     values: Vec<Value>,
 ) -> Result<Step<'t>, OutOfMemory>
-    ensures { IfOk result (λ s. (asker : Asker) → code_of (record { spec = table_spec table.entry.now; asker = asker }) locals.new.items s ≡ applied (table_spec table.entry.now) op place (nest_of nest) (expr_trees (views_of arguments.entry.now)) values.items locals.old.items) }
+    ensures { IfOk result (λ s. (asker : Asker) → code_of (record { spec = table_spec table.entry.now; asker = asker }) locals.new.items s ≡ applied (table_spec table.entry.now) op place (nest_of nest) (expr_trees (views_of arguments.entry.now.items)) values.items locals.old.items) }
 {
     match function_definition(table, &op) {
         None => Ok(Step::Fail(RunFault::TypeFault, place)),
@@ -50,10 +50,10 @@ fn applied_to<'t>(
     function: &'t FunctionDef,
     place: Place,
     nest: Nest,
-    arguments: &'t [Expr],
+    arguments: &'t Vec<Expr>,
     values: Vec<Value>,
 ) -> Result<Step<'t>, OutOfMemory>
-    ensures { IfOk result (λ s. (asker : Asker) → code_of (record { spec = table_spec table.entry.now; asker = asker }) locals.new.items s ≡ applied_to (table_spec table.entry.now) op (Some (function_view function.entry.now)) place (nest_of nest) (expr_trees (views_of arguments.entry.now)) values.items locals.old.items) }
+    ensures { IfOk result (λ s. (asker : Asker) → code_of (record { spec = table_spec table.entry.now; asker = asker }) locals.new.items s ≡ applied_to (table_spec table.entry.now) op (Some (function_view function.entry.now)) place (nest_of nest) (expr_trees (views_of arguments.entry.now.items)) values.items locals.old.items) }
 {
     let values = all_shared(alloc, values)?;
     let passing = Passing {

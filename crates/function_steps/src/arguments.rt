@@ -147,7 +147,7 @@ fn next_argument<'t>(
     let Some((declared, types)) = passing.types.split_first() else {
         return Ok(None);
     };
-    let Some((tree, arguments)) = passing.arguments.split_first() else {
+    let Some(tree) = passing.arguments.get(passing.tested) else {
         return Ok(None);
     };
     let Some(value) = passing.values.as_slice().get(passing.tested) else {
@@ -155,7 +155,6 @@ fn next_argument<'t>(
     };
     let value = value.copy(alloc)?;
     passing.types = types;
-    passing.arguments = arguments;
     passing.tested = passing.tested.checked_add(1).ok_or(OutOfMemory)?;
     Ok(Some(Argument {
         declared,

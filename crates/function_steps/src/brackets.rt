@@ -12,7 +12,7 @@ use std::alloc::Global;
 use vdm_kinds::OutOfMemory;
 
 /// The expressions in brackets in the patterns, in text order.
-pub(crate) fn givens_of<'t>(
+pub fn givens_of<'t>(
     alloc: Global,
     patterns: &'t [Pattern],
 ) -> Result<Vec<&'t Box<Expr>>, OutOfMemory>

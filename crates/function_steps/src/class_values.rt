@@ -85,18 +85,10 @@ pub fn value_given<'t>(
 ) -> Result<Step<'t>, OutOfMemory>
     ensures { IfOk result (λ s. (asker : Asker) → code_of (under (table_spec table.entry.now) asker) locals.new.items s ≡ value_given (table_spec table.entry.now) naming.entry.value.class (maybe_type naming.entry.value.declared) place (nest_of naming.entry.value.nest) naming.entry.value.outer.items value locals.old.items) }
 {
-    let naming = Box::into_inner(naming);
-    *locals = naming.outer;
     let scope = Some(naming.class);
-    let tested = fitted_maybe(
-        alloc,
-        table,
-        locals,
-        naming.nest,
-        scope,
-        naming.declared,
-        place,
-        value,
-    )?;
+    let nest = naming.nest;
+    let declared = naming.declared;
+    *locals = Box::into_inner(naming).into_outer();
+    let tested = fitted_maybe(alloc, table, locals, nest, scope, declared, place, value)?;
     Ok(tested.into_step(place))
 }

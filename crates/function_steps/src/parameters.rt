@@ -46,7 +46,7 @@ pub(crate) fn begun<'t>(
         outer: mem::replace(locals, Vec::new(alloc)),
     };
     let applying = Box::new(alloc, applying)?;
-    binds(alloc, table, locals, applying, passing.values)
+    binds(alloc, table, locals, applying, passing.into_values())
 }
 
 /// The expressions in brackets in the patterns of the parameters come first, where there are any.
@@ -125,8 +125,8 @@ fn answered<'t>(applying: Box<Applying<'t>>, attempt: Attempt) -> Step<'t>
     }
 }
 
-// Patterns of parameters of a function of a class meet values.
-fn meet(
+/// Patterns of parameters meet values, in a class.
+pub fn meet(
     alloc: Global,
     table: &ClassTable,
     locals: &mut Vec<(Name, Slot)>,

@@ -133,7 +133,6 @@ fn restored<'t>(
 ) -> Step<'t>
     ensures { (setting : Setting) → code_of setting locals.new.items result ≡ value_of value applying.entry.value.outer.items }
 {
-    let applying = Box::into_inner(applying);
-    *locals = applying.outer;
+    *locals = Box::into_inner(applying).into_outer();
     Step::value(value)
 }

@@ -10,9 +10,9 @@ use Rattle.eval_data.specs.declared.flow.Flow.{Flow}
 use Rattle.eval_data.specs.Parts.{flow_of}
 use Rattle.step_data.specs.declared.action.Action.{Action}
 use Rattle.step_data.specs.Actions.{action_code}
-use Rattle.goal_steps.specs.declared.came.Came.{Came}
-use Rattle.goal_steps.specs.declared.came.Came.TheVariants.{Is}
-use Rattle.goal_steps.specs.Came.{came_code}
+use Rattle.flow_values.specs.declared.came.Came.{Came}
+use Rattle.flow_values.specs.declared.came.Came.TheVariants.{Is}
+use Rattle.flow_values.specs.Came.{came_code}
 use Rattle.goal_steps.proofs.Moving.{moved, at_any}
 
 module _ (came : Came) (flow : Flow) (v : ValueTree) (is : came ≡ Is v)

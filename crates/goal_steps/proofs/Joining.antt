@@ -1,5 +1,5 @@
 -- Assignments that are written together.
-use Rattle.std.proofs.Common.{◌≡◌, ℕ, ◌≤◌, ◌-◌, ◌++◌, List, [], ◌∷◌, Some, Vec, map, length, take, drop, get_or, ap, sym, ◌∙◌, arith}
+use Rattle.std.proofs.Common.{◌≡◌, ℕ, ◌≤◌, ◌-◌, ◌++◌, List, [], ◌∷◌, Option, Some, Vec, map, length, take, drop, get_or, ap, sym, ◌∙◌, arith}
 use Rattle.std.proofs.lemmas.List.{take_rest}
 use Rattle.std.specs.Borrow.{Bor}
 use Rattle.std.specs.declared.alloc.Global.{Global}
@@ -13,23 +13,23 @@ use Rattle.type_tree.specs.declared.type_expr.TypeExpr.{TypeExpr}
 use Rattle.vdm_tree.specs.StmtView.{assignment_view}
 use Rattle.vdm_tree.specs.declared.target.Assignment.{Assignment}
 use Rattle.node_meaning.specs.Envs.{Here, Locals}
-use Rattle.stmt_meaning.specs.Targets.{goal_given, joined_goal, together}
+use Rattle.stmt_meaning.specs.Targets.{goal_given, joined_goal, object_of_first, together}
 use Rattle.step_data.specs.declared.assigning.Kept.TheVariants.{Joined}
 use Rattle.step_data.specs.declared.goal.Goal.{Goal}
 use Rattle.step_data.specs.declared.goal.Goal.TheVariants.{Variable}
 use Rattle.step_data.specs.Goals.{goal_view, kept_then}
 
 -- a variable gets its value with the others
-pub one_joined : (spec : SpecTree) (here : Here) (place : Place) (tree : ExprTree) (pairs : Vec Write Global) (left : Bor (List Assignment)) (locals : Locals)
+pub one_joined : (spec : SpecTree) (here : Here) (place : Place) (tree : ExprTree) (first : Option ℕ) (pairs : Vec Write Global) (left : Bor (List Assignment)) (locals : Locals)
     (goal : Goal) (me : ℕ) (var : VarRef) (t : Bor TypeExpr) (given steps : List TargetStepTree) → goal ≡ Variable me var t → given ≡ steps
-    → goal_given spec here place (goal_view goal) given tree (kept_then spec here place (goal_view goal) (Joined pairs left)) locals
+    → goal_given spec here place (goal_view goal) given tree (kept_then spec here place (goal_view goal) (Joined first pairs left)) locals
     ≡ joined_goal spec here place (Some (goal_view goal)) steps tree
-    (λ object pair. together spec here place (map assignment_view left.now) (Some object) (pairs.items ++ pair ∷ [])) locals
-one_joined spec here place tree pairs left locals goal me var t given steps is same =
-    ap (λ (ss : List TargetStepTree). goal_given spec here place (goal_view goal) ss tree (kept_then spec here place (goal_view goal) (Joined pairs left)) locals) same
-    ∙ ap (λ (g : Goal). goal_given spec here place (goal_view g) steps tree (kept_then spec here place (goal_view g) (Joined pairs left)) locals) is
+    (λ object pair. together spec here place (map assignment_view left.now) (object_of_first first object) (pairs.items ++ pair ∷ [])) locals
+one_joined spec here place tree first pairs left locals goal me var t given steps is same =
+    ap (λ (ss : List TargetStepTree). goal_given spec here place (goal_view goal) ss tree (kept_then spec here place (goal_view goal) (Joined first pairs left)) locals) same
+    ∙ ap (λ (g : Goal). goal_given spec here place (goal_view g) steps tree (kept_then spec here place (goal_view g) (Joined first pairs left)) locals) is
     ∙ ap (λ (g : Goal). joined_goal spec here place (Some (goal_view g)) steps tree
-    (λ object pair. together spec here place (map assignment_view left.now) (Some object) (pairs.items ++ pair ∷ [])) locals) (sym is)
+    (λ object pair. together spec here place (map assignment_view left.now) (object_of_first first object) (pairs.items ++ pair ∷ [])) locals) (sym is)
 
 -- the first of them, and those behind it
 pub first_and_rest : (xs : List Assignment) (x : Assignment) → 1 ≤ length xs → x ≡ get_or xs 0 x → x ∷ take (length xs - 1) (drop 1 xs) ≡ xs

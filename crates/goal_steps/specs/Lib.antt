@@ -1,5 +1,4 @@
 pub mod Beginnings
-pub mod Came
 pub mod Initials
 pub mod Joins
 pub mod Parts

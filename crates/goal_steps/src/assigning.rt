@@ -15,12 +15,12 @@ ghost use Rattle.step_data.specs.Actions.{action_code, height};
 ghost use Rattle.step_data.specs.Goals.{goal_view, kept_then};
 ghost use Rattle.goal_steps.specs.Beginnings.{Begun};
 
-use crate::came::{Came, value_in};
 use crate::indexing::evaluating;
 use crate::parts::first_part;
 use crate::storing::store_tested;
 use crate::testing::goal_tested;
 use eval_data::{Flow, Here};
+use flow_values::{Came, value_in};
 use spec_table::ClassTable;
 use std::alloc::Global;
 use step_data::{Action, Assigning, Goal, Kept, Pending, Task, Waiting};

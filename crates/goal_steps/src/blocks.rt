@@ -16,11 +16,11 @@ ghost use Rattle.step_data.specs.Actions.{action_code, height};
 ghost use Rattle.step_data.specs.Declarations.{local_came as came_plan, local_fits as fits_plan, locals_left, rest_of_block};
 ghost use Rattle.step_data.specs.Parts.{statements_of};
 
-use crate::came::{Came, value_in};
 use crate::initials::Initial;
 use bind_steps::push_shared;
 use eval_data::{Flow, Here, Nest};
 use fit_steps::{Tested, fitted};
+use flow_values::{Came, value_in};
 use spec_table::ClassTable;
 use std::alloc::Global;
 use step_data::{Action, BlockRest, Declaring, Waiting};

@@ -12,10 +12,10 @@ ghost use Rattle.step_data.specs.Actions.{action_code, height};
 ghost use Rattle.step_data.specs.Goals.{exprs_left, goal_view, index_then, kept_with, steps_of};
 ghost use Rattle.goal_steps.specs.Parts.{part_exprs};
 
-use crate::came::{Came, value_in};
 use crate::changing::goal_changed;
 use crate::parts::{NextPart, next_part};
 use eval_data::Flow;
+use flow_values::{Came, value_in};
 use spec_table::ClassTable;
 use std::alloc::Global;
 use step_data::{Action, Assigning, Pending, Task, Waiting};

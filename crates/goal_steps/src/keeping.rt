@@ -12,12 +12,12 @@ ghost use Rattle.step_data.specs.Actions.{action_code, height};
 ghost use Rattle.step_data.specs.Goals.{goal_view, join_then, kept_with};
 ghost use Rattle.goal_steps.specs.Joins.{kept_as};
 
-use crate::came::{Came, value_in};
 use crate::storing::stored;
 use crate::testing::goal_tested;
 use crate::together::value_joined;
 use eval_data::Flow;
 use fit_steps::Tested;
+use flow_values::{Came, value_in};
 use run_journal::Write;
 use spec_table::ClassTable;
 use std::alloc::Global;
@@ -117,7 +117,9 @@ fn value_kept<'t>(
     let goal = assigning.goal;
     let place = assigning.place;
     match take_joined(alloc, &mut assigning) {
-        Some((pairs, left)) => value_joined(alloc, table, here, goal, pairs, left, place, value),
+        Some((object, pairs, left)) => {
+            value_joined(alloc, table, here, goal, object, pairs, left, place, value)
+        }
         None => stored(alloc, locals, goal, place, value),
     }
 }
@@ -126,14 +128,14 @@ fn value_kept<'t>(
 fn take_joined<'t>(
     alloc: Global,
     assigning: &mut Assigning<'t>,
-) -> Option<(Vec<Write>, &'t [Assignment])>
+) -> Option<(Option<u32>, Vec<Write>, &'t [Assignment])>
     ensures { assigning.old.kept ≡ kept_as result }
 {
     match &mut assigning.kept {
         Kept::Stored => None,
-        Kept::Joined(pairs, left) => {
+        Kept::Joined(object, pairs, left) => {
             let pairs = mem::replace(pairs, Vec::new(alloc));
-            Some((pairs, *left))
+            Some((*object, pairs, *left))
         }
     }
 }

@@ -3,7 +3,6 @@
 
 mod assigning;
 mod blocks;
-mod came;
 mod changing;
 mod goals;
 mod indexing;

@@ -13,9 +13,9 @@ ghost use Rattle.fit_steps.specs.Tests.{tested_code};
 ghost use Rattle.step_data.specs.Actions.{action_code, height};
 ghost use Rattle.step_data.specs.Goals.{goal_view};
 
-use crate::came::{Came, value_in};
 use eval_data::Flow;
 use fit_steps::Tested;
+use flow_values::{Came, value_in};
 use run_journal::Answer;
 use std::alloc::Global;
 use step_data::{Action, Asking, Goal, Waiting};

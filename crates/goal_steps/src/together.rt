@@ -5,7 +5,7 @@ ghost use Rattle.abstract_syntax.specs.Classes.{SpecTree};
 ghost use Rattle.expr_tree.specs.View.{boxed_view};
 ghost use Rattle.node_meaning.specs.Envs.{Locals};
 ghost use Rattle.spec_table.specs.Tables.{table_spec};
-ghost use Rattle.stmt_meaning.specs.Targets.{joined_goal as joined_plan, target_steps as target_steps_of, together as together_plan, written_together as written_plan};
+ghost use Rattle.stmt_meaning.specs.Targets.{joined_goal as joined_plan, object_of_first as object_of_first_in, target_steps as target_steps_of, together as together_plan, written_together as written_plan};
 ghost use Rattle.vdm_tree.specs.StmtView.{assignment_view, target_view};
 ghost use Rattle.eval_data.specs.Parts.{here_of};
 ghost use Rattle.step_data.specs.Actions.{action_code, height};
@@ -61,8 +61,8 @@ fn together<'t>(
     match assignments {
         [] => Ok(written_together(place, object, pairs)),
         [assignment, left @ ..] => {
-            let goal = goal_among(table, here, &[], &assignment.target);
-            assign_one(alloc, here, goal, assignment, pairs, left, place)
+            let goal = goal_among(table, here, &[], &assignment.target)?;
+            assign_one(alloc, here, goal, assignment, object, pairs, left, place)
         }
     }
 }
@@ -84,15 +84,16 @@ fn assign_one<'t>(
     here: Here<'t>,
     goal: Option<Goal<'t>>,
     assignment: &'t Assignment,
+    object: Option<u32>,
     pairs: Vec<Write>,
     left: &'t [Assignment],
     place: Place,
 ) -> Result<Action<'t>, OutOfMemory>
-    ensures same { IfOk result (λ a. (spec : SpecTree) (locals : Locals) → action_code spec locals a ≡ joined_plan spec (here_of here.entry) place (option_map goal_view goal.entry) (target_steps_of (target_view assignment.now.target)) (boxed_view assignment.now.value) (λ me pair. together_plan spec (here_of here.entry) place (map assignment_view left.now) (Some me) (pairs.items ++ pair ∷ [])) locals) }
+    ensures same { IfOk result (λ a. (spec : SpecTree) (locals : Locals) → action_code spec locals a ≡ joined_plan spec (here_of here.entry) place (option_map goal_view goal.entry) (target_steps_of (target_view assignment.now.target)) (boxed_view assignment.now.value) (λ me pair. together_plan spec (here_of here.entry) place (map assignment_view left.now) (object_of_first_in object me) (pairs.items ++ pair ∷ [])) locals) }
     ensures falls { IfOk result (λ a. height a ≤ 1) }
 {
     match goal {
-        Some(goal) => assign_variable(alloc, here, goal, assignment, pairs, left, place),
+        Some(goal) => { assign_variable(alloc, here, goal, assignment, object, pairs, left, place) }
         None => Ok(Action::Fail(RunFault::Undefined, place)),
     }
 }
@@ -103,17 +104,18 @@ fn assign_variable<'t>(
     here: Here<'t>,
     goal: Goal<'t>,
     assignment: &'t Assignment,
+    object: Option<u32>,
     pairs: Vec<Write>,
     left: &'t [Assignment],
     place: Place,
 ) -> Result<Action<'t>, OutOfMemory>
-    ensures same { IfOk result (λ a. (spec : SpecTree) (locals : Locals) → action_code spec locals a ≡ joined_plan spec (here_of here.entry) place (Some (goal_view goal.entry)) (target_steps_of (target_view assignment.now.target)) (boxed_view assignment.now.value) (λ me pair. together_plan spec (here_of here.entry) place (map assignment_view left.now) (Some me) (pairs.items ++ pair ∷ [])) locals) }
+    ensures same { IfOk result (λ a. (spec : SpecTree) (locals : Locals) → action_code spec locals a ≡ joined_plan spec (here_of here.entry) place (Some (goal_view goal.entry)) (target_steps_of (target_view assignment.now.target)) (boxed_view assignment.now.value) (λ me pair. together_plan spec (here_of here.entry) place (map assignment_view left.now) (object_of_first_in object me) (pairs.items ++ pair ∷ [])) locals) }
     ensures falls { IfOk result (λ a. height a ≤ 1) }
 {
     match goal {
         Goal::Variable(_, _, _) => {
             let steps = target_steps(&assignment.target);
-            let kept = Kept::Joined(pairs, left);
+            let kept = Kept::Joined(object, pairs, left);
             joined(alloc, here, goal, steps, &assignment.value, kept, place)
         }
         Goal::Local(_, _) => Ok(Action::Fail(RunFault::Undefined, place)),
@@ -126,20 +128,32 @@ pub(crate) fn value_joined<'t>(
     table: &'t ClassTable,
     here: Here<'t>,
     goal: Goal<'t>,
+    object: Option<u32>,
     pairs: Vec<Write>,
     left: &'t [Assignment],
     place: Place,
     value: Value,
 ) -> Result<Action<'t>, OutOfMemory>
-    ensures same { IfOk result (λ a. (locals : Locals) → action_code (table_spec table.now) locals a ≡ kept_then (table_spec table.now) (here_of here.entry) place (goal_view goal.entry) (Joined pairs left.entry) value locals) }
+    ensures same { IfOk result (λ a. (locals : Locals) → action_code (table_spec table.now) locals a ≡ kept_then (table_spec table.now) (here_of here.entry) place (goal_view goal.entry) (Joined object pairs left.entry) value locals) }
     ensures falls { IfOk result (λ a. height a ≤ 2) }
 {
     match goal {
         Goal::Variable(me, var, _) => {
             let mut pairs = pairs;
             pairs.push(Write { var, value })?;
-            together(alloc, table, here, left, Some(me), pairs, place)
+            let object = object_of_first(object, me);
+            together(alloc, table, here, left, object, pairs, place)
         }
         Goal::Local(_, _) => Ok(Action::Fail(RunFault::Undefined, place)),
+    }
+}
+
+/// The object of the first variable is that of all.
+fn object_of_first(first: Option<u32>, object: u32) -> Option<u32>
+    ensures { result ≡ object_of_first_in first object }
+{
+    match first {
+        Some(_) => first,
+        None => Some(object),
     }
 }

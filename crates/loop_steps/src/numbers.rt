@@ -10,7 +10,7 @@ ghost use Rattle.step_data.specs.Actions.{action_code, behind_by, behind_first, 
 
 use crate::rounds::rounds_from;
 use eval_data::{Flow, Here};
-use flow_steps::{Number, number_in};
+use flow_values::{Number, number_in};
 use std::alloc::Global;
 use step_data::{Action, Counting, ForLoop, Pending, Task, Waiting};
 use vdm_kinds::{Name, OutOfMemory, RunFault};

@@ -13,7 +13,7 @@ ghost use Rattle.eval_data.specs.Parts.{here_of, flow_of};
 ghost use Rattle.step_data.specs.Actions.{action_code, height};
 
 use eval_data::{Flow, Here};
-use flow_steps::{Truth, truth_in};
+use flow_values::{Truth, truth_in};
 use step_data::{Action, Pending, Round, Task, Waiting};
 use vdm_kinds::Place;
 use vdm_tree::{Expr, Stmt};

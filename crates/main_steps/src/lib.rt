@@ -3,6 +3,10 @@
 
 mod main_code;
 mod question;
+mod statics;
+mod testing;
 
-pub use main_code::{ended, make_class_objects};
+pub use main_code::{class_made, ended, make_class_objects};
 pub use question::question_of;
+pub use statics::static_came;
+pub use testing::static_fits;

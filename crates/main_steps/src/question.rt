@@ -5,16 +5,22 @@ ghost use Rattle.step_data.specs.Actions.{question_of};
 
 use run_journal::{Question, Write, WriteList};
 use std::alloc::Global;
-use step_data::Asking;
-use vdm_kinds::{Name, OutOfMemory, VarRef};
-use vdm_values::{SlotList, Value};
+use step_data::{Asking, ClassMaking};
+use value_text::printed_text;
+use vdm_kinds::{OutOfMemory, VarRef};
+use vdm_names::Names;
+use vdm_values::{Slot, SlotList, Value};
 
-/// The question that is asked.
-pub fn question_of(alloc: Global, asking: &Asking<'_>) -> Result<Question, OutOfMemory>
-    ensures { IfOk result (λ q. q ≡ question_of asking.now) }
+/// The question that is asked, where what is printed is written over the names of the texts.
+pub fn question_of(
+    alloc: Global,
+    names: &Names,
+    asking: &Asking<'_>,
+) -> Result<Question, OutOfMemory>
+    ensures { IfOk result (λ q. q ≡ question_of names.now asking.now) }
 {
     match asking {
-        Asking::Class(object, _, class, _) => Ok(class_question(alloc, *object, *class)),
+        Asking::Class(making) => class_question(alloc, making),
         Asking::Request(call) => Ok(Question::Req {
             object: call.me,
             op: call.op,
@@ -22,6 +28,10 @@ pub fn question_of(alloc: Global, asking: &Asking<'_>) -> Result<Question, OutOf
         Asking::Activation(call) => Ok(Question::Act {
             object: call.me,
             op: call.op,
+        }),
+        Asking::Before(_, old, _) => Ok(Question::Read {
+            object: old.object,
+            var: old.var,
         }),
         Asking::Finish(me, op, _) => Ok(Question::Fin {
             object: *me,
@@ -37,25 +47,41 @@ pub fn question_of(alloc: Global, asking: &Asking<'_>) -> Result<Question, OutOf
             object: *me,
             var: *var,
         }),
-        Asking::New(class, slots, _) => Ok(Question::New {
-            class: *class,
+        Asking::New(creating, slots) => Ok(Question::New {
+            class: creating.class,
             values: slots.copy(alloc)?,
         }),
+        Asking::Print(values) => Ok(Question::Print {
+            text: printed_text(alloc, values.as_slice(), names)?,
+        }),
+        Asking::Time(_) => Ok(Question::Time),
         Asking::End(slot) => Ok(Question::End {
             value: slot.copy(alloc)?,
         }),
     }
 }
 
-/// The question for the class object of a class. So far no class has a static variable.
-fn class_question(alloc: Global, object: u32, class: Name) -> Question
-    ensures { result ≡ Question.Class object class [] }
+/// The question for a class object.
+fn class_question(alloc: Global, making: &ClassMaking<'_>) -> Result<Question, OutOfMemory>
+    ensures { IfOk result (λ q. q ≡ Question.Class making.now.object making.now.class making.now.slots.items) }
 {
-    Question::Class {
-        object,
-        class,
-        values: SlotList::from_vec(Vec::new(alloc)),
+    let values = copied(alloc, making.slots.as_slice())?;
+    Ok(Question::Class {
+        object: making.object,
+        class: making.class,
+        values,
+    })
+}
+
+/// A list of its own of the same slots.
+fn copied(alloc: Global, slots: &[Slot]) -> Result<SlotList, OutOfMemory>
+    ensures { IfOk result (λ list. list ≡ slots.now) }
+{
+    let mut copies = Vec::new(alloc);
+    for slot in slots {
+        copies.push(slot.copy(alloc)?)?;
     }
+    Ok(SlotList::from_vec(copies))
 }
 
 /// The question to write one variable.

@@ -14,11 +14,11 @@ ghost use Rattle.step_data.specs.Actions.{action_code, height};
 ghost use Rattle.step_data.specs.Meetings.{cases_left};
 ghost use Rattle.meet_steps.specs.Onwards.{case_count, end_height, left_in, onward_code, pattern_count};
 
-use crate::came::{Came, value_in};
 use crate::meeting::followed;
 use crate::onward::Onward;
 use eval_data::{Flow, Here};
 use expr_tree::Pattern;
+use flow_values::{Came, value_in};
 use spec_table::ClassTable;
 use std::alloc::Global;
 use step_data::{Action, Follow, Meeting, Task};

@@ -20,12 +20,12 @@ ghost use Rattle.fit_steps.specs.Tests.{tested_code, under};
 ghost use Rattle.step_data.specs.Actions.{action_code, height};
 ghost use Rattle.step_data.specs.Meetings.{defined_meets, defined_tested, meets_value};
 
-use crate::came::{Came, value_in};
 use crate::meeting::meets;
 use crate::parts::{part, within};
 use eval_data::{Flow, Here};
 use expr_tree::{Defined, Pattern};
 use fit_steps::{Tested, fitted_maybe};
+use flow_values::{Came, value_in};
 use spec_table::ClassTable;
 use std::alloc::Global;
 use step_data::{Action, Defining, Follow, Meeting, Waiting};

@@ -13,11 +13,11 @@ ghost use Rattle.step_data.specs.Actions.{action_code, height};
 ghost use Rattle.step_data.specs.Meetings.{element_then};
 ghost use Rattle.meet_steps.specs.Onwards.{end_height, left_in, onward_code};
 
-use crate::came::{Came, value_in};
 use crate::meeting::followed;
 use crate::onward::Onward;
 use eval_data::{Flow, Here};
 use expr_tree::Pattern;
+use flow_values::{Came, value_in};
 use spec_table::ClassTable;
 use std::alloc::Global;
 use step_data::{Action, Elements, Follow, Meeting, Pending, Task, Waiting};
@@ -156,14 +156,12 @@ fn elements_left<'t>(
     ensures same { IfOk result (λ a. action_code (table_spec table.now) locals.new.items a ≡ each_element (table_spec table.now) (here_of elements.entry.value.here) elements.entry.value.place (pattern_view elements.entry.value.pattern.now) (boxed_stmt elements.entry.value.body.now) elements.entry.value.count (reverse elements.entry.value.values.items) locals.old.items) }
     ensures falls { IfOk result (λ a. height a ≤ 1) }
 {
-    let Elements {
-        here,
-        place,
-        pattern,
-        body,
-        count,
-        values,
-    } = Box::into_inner(elements);
+    let here = elements.here;
+    let place = elements.place;
+    let pattern = elements.pattern;
+    let body = elements.body;
+    let count = elements.count;
+    let values = Box::into_inner(elements).into_values();
     let onward = element_behind(here, place, pattern, body, count, values);
     followed(alloc, table, locals, onward)
 }

@@ -1,7 +1,6 @@
 //! Statements whose patterns meet values: definitions, alternatives, loops over elements, and handlers.
 #![tactic(auto)]
 
-mod came;
 mod choices;
 mod defining;
 mod elements;

@@ -13,12 +13,12 @@ ghost use Rattle.step_data.specs.Actions.{action_code, height};
 ghost use Rattle.step_data.specs.Meetings.{given_then, meets_value, met_value};
 ghost use Rattle.meet_steps.specs.Onwards.{end_height, onward_code};
 
-use crate::came::{Came, value_in};
 use crate::onward::Onward;
 use crate::parts::part;
 use crate::trying::{met, tried};
 use eval_data::Flow;
 use expr_tree::Expr;
+use flow_values::{Came, value_in};
 use spec_table::ClassTable;
 use std::alloc::Global;
 use step_data::{Action, Given, Meeting, Waiting};
@@ -183,12 +183,7 @@ fn all_given<'t>(
     ensures same { IfOk result (λ a. action_code (table_spec table.now) locals.new.items a ≡ met_value (table_spec table.now) given.entry.value.meeting given.entry.value.given.items locals.old.items) }
     ensures falls { IfOk result (λ a. height a ≤ 1) }
 {
-    let Given {
-        meeting,
-        found: _found,
-        next: _,
-        given,
-    } = Box::into_inner(given);
+    let (meeting, given) = Box::into_inner(given).into_parts();
     let onward = met(alloc, table, locals, meeting, given)?;
     followed(alloc, table, locals, onward)
 }

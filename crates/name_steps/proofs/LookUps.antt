@@ -9,6 +9,8 @@ use Rattle.class_meaning.specs.declared.found.OpFound.{OpFound}
 use Rattle.class_meaning.specs.declared.found.OpFound.TheVariants.{None as no_op}
 use Rattle.class_meaning.specs.declared.found.VarFound.{VarFound}
 use Rattle.class_meaning.specs.declared.found.VarFound.TheVariants.{None as no_var}
+use Rattle.spec_table.specs.Members.{descends_to}
+use Rattle.node_meaning.specs.Fitting.{descends_by}
 use Rattle.node_meaning.specs.Names.{function_in, one_operation, one_variable, operation_in, value_in, variable_in}
 
 -- what is found in a class, where there is one
@@ -51,3 +53,10 @@ operation_found_in spec class name arity found some none = by (class_number spec
         one_operation found ≡ option_and_then (λ (k : ℕ). one_operation (found_operation spec k name arity)) o
     by None some none = ap one_operation (none refl)
     by (Some k) some none = ap one_operation (some k refl)
+
+-- the table tells which class is a kind of which as the meaning does
+pub descends_alike : (spec : SpecTree) (class other : Option ℕ) → descends_to spec class other ≡ descends_by spec class other
+descends_alike spec None None = refl
+descends_alike spec None (Some a) = refl
+descends_alike spec (Some k) None = refl
+descends_alike spec (Some k) (Some a) = refl

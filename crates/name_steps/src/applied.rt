@@ -4,6 +4,7 @@ ghost use Rattle.std.specs.Prelude.{◌≡◌};
 ghost use Rattle.expr_tree.specs.View.{boxed_view, view_of};
 ghost use Rattle.name_steps.specs.Applied.{applied_tree, applied_view};
 
+use eval_data::Selected;
 use expr_tree::Expr;
 use vdm_kinds::{Name, Place};
 
@@ -14,8 +15,8 @@ pub(crate) enum Applied<'t> {
     Name(Name),
     /// What a name means in the class of another name, which stands first.
     Qualified(Name, Name),
-    /// The member of this name of the value that an expression gives, selected at the place.
-    Member(&'t Box<Expr>, Name, Place),
+    /// What is selected at the place of the value that an expression gives.
+    Member(&'t Box<Expr>, Selected, Place),
     /// The value of any other expression.
     Value,
 }
@@ -33,7 +34,12 @@ fn applied_in(head: &Expr) -> Applied<'_>
     match head {
         Expr::Name(name, _) => Applied::Name(*name),
         Expr::Qualified(class, name, _, _) => Applied::Qualified(*class, *name),
-        Expr::Select(target, name, _, dot) => Applied::Member(target, *name, *dot),
+        Expr::Select(target, name, _, dot) => {
+            Applied::Member(target, Selected::Member(*name), *dot)
+        }
+        Expr::SelectOfClass(target, class, _, name, _, dot) => {
+            Applied::Member(target, Selected::OfClass(*class, *name), *dot)
+        }
         _ => Applied::Value,
     }
 }

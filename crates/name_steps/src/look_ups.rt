@@ -7,9 +7,12 @@ ghost use Rattle.vdm_tree.specs.ClassView.{variable_view, operation_view};
 ghost use Rattle.vdm_tree.specs.declared.class_def.VarDef.{VarDef};
 ghost use Rattle.vdm_tree.specs.declared.class_def.OpDef.{OpDef};
 ghost use Rattle.spec_table.specs.Tables.{table_spec};
-ghost use Rattle.node_meaning.specs.Names.{one_operation, one_variable, value_in, function_in, operation_in, variable_in, variable_definition, variables_of, operation_definition, operation_reached, own_reached};
+ghost use Rattle.node_meaning.specs.Expressions.{class_for};
+ghost use Rattle.node_meaning.specs.Fitting.{descends};
+ghost use Rattle.node_meaning.specs.Names.{one_operation, one_variable, value_in, function_in, operation_in, variable_in, variable_definition, variables_of, operation_definition, operation_reached, own_named, own_reached};
 
 use class_meaning::{OpFound, VarFound};
+use expr_tree::TypeNames;
 use spec_table::ClassTable;
 use vdm_kinds::{Name, OpRef, VarRef};
 use vdm_tree::{OpDef, VarDef};
@@ -115,8 +118,9 @@ pub fn operation_reached(
     table.reached(scope, class, name, arity)
 }
 
-/// The operation that a call with no object before it reaches: that through an object of the class `own`, on which the node stands.
-pub fn own_reached(
+/// The operation that a call with no object before it reaches: that through an object of the class `own`, on which the node stands, or
+/// else the one that its class has.
+fn own_reached(
     table: &ClassTable,
     scope: Option<Name>,
     own: Option<Name>,
@@ -127,6 +131,37 @@ pub fn own_reached(
 {
     match own {
         Some(class) => operation_reached(table, scope, class, name, arity),
-        None => None,
+        None => operation_in(table, scope, name, arity),
     }
+}
+
+/// ... where the name means an operation in the class `scope`. What it means otherwise hides the operations of classes below.
+pub(crate) fn own_named(
+    table: &ClassTable,
+    scope: Option<Name>,
+    own: Option<Name>,
+    name: Name,
+    arity: u32,
+) -> Option<OpRef>
+    ensures { result ≡ own_named (table_spec table.now) scope own name arity }
+{
+    operation_in(table, scope, name, arity)?;
+    own_reached(table, scope, own, name, arity)
+}
+
+/// The class, for an object of the class `own`, which has to have it among its ancestors.
+pub(crate) fn class_for(table: &ClassTable, own: Name, class: Name) -> Option<Name>
+    ensures { result ≡ class_for (table_spec table.now) own class }
+{
+    if descends(table, own, class) {
+        Some(class)
+    } else {
+        None
+    }
+}
+
+fn descends(table: &ClassTable, class: Name, ancestor: Name) -> bool
+    ensures { result ≡ descends (table_spec table.now) class ancestor }
+{
+    table.is_kind_of(class, ancestor)
 }

@@ -1,40 +1,73 @@
 // What comes of needs.
 
-ghost use Rattle.std.specs.Prelude.{◌≡◌};
+ghost use Rattle.std.specs.Prelude.{◌≡◌, IfOk};
 ghost use Rattle.vdm_kinds.specs.declared.place.Place.{Place as PlaceOf};
+ghost use Rattle.expr_tree.specs.View.{expr_trees, views_of};
 ghost use Rattle.node_meaning.specs.Wanted.{given as given_plan, given_slot as given_slot_plan};
 ghost use Rattle.node_meaning.specs.Envs.{Locals};
+ghost use Rattle.node_meaning.specs.Expressions.{looked_up_in as looked_up_in_plan};
 ghost use Rattle.node_meaning.specs.Needs.{Setting};
 ghost use Rattle.node_meaning.specs.Tasks.{with_value, value as value_of};
-ghost use Rattle.eval_data.specs.Parts.{wanted_of, flow_of};
-ghost use Rattle.eval_data.specs.Steps.{code_of, after_need as after_need_plan};
+ghost use Rattle.eval_data.specs.Parts.{here_of, wanted_of, flow_of};
+ghost use Rattle.eval_data.specs.Steps.{code_of, IsLight, after_need as after_need_plan};
 ghost use Rattle.name_steps.specs.Came.{came_code};
 
-use eval_data::{After, Flow, Step, Wanted};
-use vdm_kinds::{Place, RunFault};
+use crate::calling::looked_up_in;
+use eval_data::{After, Flow, Here, Step, Wanted};
+use expr_tree::Expr;
+use std::alloc::Global;
+use vdm_kinds::{OutOfMemory, Place, RunFault};
 use vdm_values::Slot;
 
-/// What follows a need of the node at the place.
-pub fn after_need<'t>(after: After, place: Place, flow: Flow) -> Step<'t>
-    ensures { (setting : Setting) (locals : Locals) → code_of setting locals result ≡ after_need_plan after place (flow_of flow locals) }
+/// What follows a need of the node at the place. It fails with `Undefined` where what came is no value and one is read, made or looked up
+/// in, and with `NoReturn` where a call gave none and one is wanted.
+pub fn after_need<'t>(
+    alloc: Global,
+    after: After<'t>,
+    place: Place,
+    flow: Flow,
+) -> Result<Step<'t>, OutOfMemory>
+    ensures same { IfOk result (λ s. (setting : Setting) (locals : Locals) → code_of setting locals s ≡ after_need_plan after.entry place (flow_of flow locals)) }
+    ensures light { IfOk result (λ s. IsLight s) }
 {
-    match came_of_need(after, flow) {
+    match after {
+        After::Value => Ok(came_step(needed_value(flow), place)),
+        After::Given(wanted) => Ok(came_step(given(wanted, flow), place)),
+        After::LooksUp(here, arguments, applied) => {
+            needed_looked_up_in(alloc, here, arguments, applied, place, flow)
+        }
+    }
+}
+
+/// What came of a node, or its fault at the place.
+fn came_step<'t>(came: Result<Flow, RunFault>, place: Place) -> Step<'t>
+    ensures same { (setting : Setting) (locals : Locals) → code_of setting locals result ≡ came_code place locals came }
+    ensures light { IsLight result }
+{
+    match came {
         Ok(flow) => Step::Finish(flow),
         Err(fault) => Step::Fail(fault, place),
     }
 }
 
-/// What came of a node that needed this.
-///
-/// # Errors
-///
-/// `Undefined` where what came is no value and a value is read or made; `NoReturn` where a call gave none and one is wanted.
-pub fn came_of_need(after: After, flow: Flow) -> Result<Flow, RunFault>
-    ensures { (place : PlaceOf) (locals : Locals) → came_code place locals result ≡ after_need_plan after place (flow_of flow locals) }
+/// What an application at the place `applied` looks up in the value that was needed.
+fn needed_looked_up_in<'t>(
+    alloc: Global,
+    here: Here<'t>,
+    arguments: &'t Vec<Expr>,
+    applied: Place,
+    place: Place,
+    flow: Flow,
+) -> Result<Step<'t>, OutOfMemory>
+    ensures same { IfOk result (λ s. (setting : Setting) (locals : Locals) → code_of setting locals s ≡ with_value place (looked_up_in_plan (here_of here.entry) (expr_trees (views_of arguments.now.items)) applied) (flow_of flow locals)) }
+    ensures light { IfOk result (λ s. IsLight s) }
 {
-    match after {
-        After::Value => needed_value(flow),
-        After::Given(wanted) => given(wanted, flow),
+    match flow {
+        Flow::Gave(Slot::Held(value)) => looked_up_in(alloc, here, arguments, applied, value),
+        Flow::Gave(Slot::Unset) => Ok(Step::Fail(RunFault::Undefined, place)),
+        Flow::Next => Ok(Step::Fail(RunFault::Undefined, place)),
+        Flow::Returned(_slot) => Ok(Step::Fail(RunFault::Undefined, place)),
+        Flow::Exited(value, from) => Ok(Step::Finish(Flow::Exited(value, from))),
     }
 }
 

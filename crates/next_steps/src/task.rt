@@ -1,8 +1,8 @@
 // What a task does first.
 
-ghost use Rattle.std.specs.Prelude.{◌≡◌, ◌≤◌, IfOk};
+ghost use Rattle.std.specs.Prelude.{◌≡◌, ◌≤◌, ◌+◌, IfOk};
 ghost use Rattle.spec_table.specs.Tables.{table_spec};
-ghost use Rattle.step_data.specs.Actions.{action_code, height};
+ghost use Rattle.step_data.specs.Actions.{action_code, height, most};
 ghost use Rattle.step_data.specs.Declarations.{declared_of};
 ghost use Rattle.next_steps.specs.Plans.{task_plan};
 
@@ -23,7 +23,7 @@ pub fn node_plan<'t>(
     task: Task<'t>,
 ) -> Result<Action<'t>, OutOfMemory>
     ensures same { IfOk result (λ a. action_code (table_spec table.now) locals.new.items a ≡ task_plan (table_spec table.now) (declared_of declared.now) task.entry locals.old.items) }
-    ensures falls { IfOk result (λ a. height a ≤ 5) }
+    ensures falls { IfOk result (λ a. height a ≤ 9 + most) }
 {
     match task {
         Task::Expr(here, tree) => Ok(Action::of(expression(alloc, table, locals, here, tree)?)),

@@ -5,26 +5,28 @@ ghost use Rattle.abstract_syntax.specs.Classes.{SpecTree};
 ghost use Rattle.node_meaning.specs.Envs.{Locals};
 ghost use Rattle.spec_table.specs.Tables.{table_spec};
 ghost use Rattle.eval_data.specs.Parts.{flow_of, here_of};
-ghost use Rattle.eval_data.specs.Steps.{after_need};
+ghost use Rattle.eval_data.specs.Steps.{after_need as after_plan};
 ghost use Rattle.step_data.specs.Actions.{action_code, waiting_then, waiting_weight, busy, height, round_done as done_plan};
 ghost use Rattle.step_data.specs.Parts.{round_of};
 
-use crate::values::{left_flow, returned_flow, tested_flow};
-use call_steps::call::ended as call_ended;
-use call_steps::object::initialised;
+use crate::values::returned_flow;
+use call_steps::{argument_fits, body_left, parameter_came, post_came, pre_came, result_fits};
 use eval_data::{After, Flow, Here};
 use eval_steps::then_of as expression_then;
-use flow_steps::{at_last, branch_decided, called, cut, exit_with, unless_ended, unless_replaced};
+use flow_steps::{
+    at_last, back, branch_decided, called, cut, exit_with, unless_ended, unless_replaced,
+};
 use goal_steps::{
     assign_value, goal_fits, index_came, join_came, local_came, local_fits, store_value,
 };
 use loop_steps::{again, by_number, counted, first_number, last_number, while_decided};
-use main_steps::ended as main_ended;
+use main_steps::{ended as main_ended, static_came, static_fits};
 use meet_steps::{
     alternatives, caught, defined, defined_fits, elements_of_sequence, elements_of_set, found,
     given, next_element, trapped,
 };
-use name_steps::came_of_need;
+use name_steps::after_need;
+use object_steps::{initialised, slot_fits};
 use spec_table::ClassTable;
 use std::alloc::Global;
 use step_data::{Action, Round, Waiting};
@@ -48,7 +50,7 @@ pub fn then_of<'t>(
         Waiting::Expr(frame) => {
             Ok(Action::of(expression_then(alloc, table, locals, frame, flow)?))
         }
-        Waiting::After(after, place) => Ok(behind_need(after, place, flow)),
+        Waiting::After(after, place) => behind_need(alloc, after, place, flow),
         Waiting::Called => Ok(called(flow)),
         Waiting::Rest(here, statements, count) => {
             Ok(unless_ended(locals, here, statements, count, flow))
@@ -64,10 +66,21 @@ pub fn then_of<'t>(
         Waiting::Join(assigning) => join_came(alloc, table, locals, assigning, flow),
         Waiting::GoalFits(assigning) => goal_fits(alloc, table, locals, assigning, flow),
         Waiting::Return(place) => Ok(returned_flow(place, flow)),
-        Waiting::Body(call, saved) => call_ended(alloc, table, locals, call, saved, flow),
+        Waiting::Argument(requesting, tested, place) => {
+            argument_fits(alloc, table, locals, requesting, tested, place, flow)
+        }
+        Waiting::Back(saved) => Ok(back(locals, saved, flow)),
+        Waiting::Parameters(binding) => parameter_came(alloc, table, locals, binding, flow),
+        Waiting::Pre(call) => Ok(pre_came(locals.as_slice(), call, flow)),
+        Waiting::Body(call, count) => body_left(alloc, table, locals, call, count, flow),
+        Waiting::Leave(call) => result_fits(alloc, locals, call, flow),
+        Waiting::Post(call, slot) => Ok(post_came(call, slot, flow)),
         Waiting::Initial(making) => initialised(alloc, table, locals, making, flow),
-        Waiting::Leave(me, op, place) => Ok(left_flow(me, op, place, flow)),
-        Waiting::Slots(making, tested) => tested_flow(alloc, table, locals, making, tested, flow),
+        Waiting::Static(making, place) => static_came(alloc, table, locals, making, place, flow),
+        Waiting::StaticFits(making, tested, place) => {
+            static_fits(alloc, table, locals, making, tested, place, flow)
+        }
+        Waiting::Slots(making, tested) => slot_fits(alloc, table, locals, making, tested, flow),
         Waiting::Exit(place) => Ok(exit_with(place, flow)),
         Waiting::Branches(here, statement, more, otherwise, place) => {
             Ok(branch_decided(here, statement, more, otherwise, place, flow))
@@ -134,13 +147,16 @@ fn round_done<'t>(
 }
 
 /// What is done with what came of a need.
-fn behind_need<'t>(after: After, place: Place, flow: Flow) -> Action<'t>
-    ensures same { (spec : SpecTree) (locals : Locals) → action_code spec locals result ≡ after_need after place (flow_of flow locals) }
-    ensures busy { busy result ≤ 1 }
-    ensures falls { height result ≤ 1 }
+fn behind_need<'t>(
+    alloc: Global,
+    after: After<'t>,
+    place: Place,
+    flow: Flow,
+) -> Result<Action<'t>, OutOfMemory>
+    ensures same { IfOk result (λ a. (spec : SpecTree) (locals : Locals) → action_code spec locals a ≡ after_plan after.entry place (flow_of flow locals)) }
+    ensures busy { IfOk result (λ a. busy a ≤ 1) }
+    ensures falls { IfOk result (λ a. height a ≤ 1) }
 {
-    match came_of_need(after, flow) {
-        Ok(flow) => Action::Finish(flow),
-        Err(fault) => Action::Fail(fault, place),
-    }
+    let step = after_need(alloc, after, place, flow)?;
+    Ok(Action::of(step))
 }

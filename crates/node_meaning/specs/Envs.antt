@@ -1,5 +1,5 @@
 -- Where a node stands: whose names it sees.
-use Rattle.std.specs.Prelude.{ℕ, suc, List, map, reverse, Option, Some, None, option_map}
+use Rattle.std.specs.Prelude.{ℕ, suc, ◌+◌, Bool, true, false, not, ◌||◌, List, map, reverse, Option, Some, None, is_some, option_map}
 use Rattle.std.specs.List.{find}
 use Rattle.vdm_kinds.specs.NameList.{io}
 use Rattle.vdm_kinds.specs.declared.member.VarRef.{VarRef}
@@ -25,6 +25,10 @@ local_named locals name = option_map (λ (l : Name × Slot). l.1) (find (λ (l :
 abbrev pub result_name : Name
 result_name = record { 0 = 4294967295 }
 
+-- The name under which `x~` stands among the locals. The names of a text have smaller numbers than 2147483648.
+abbrev pub old_name : Name → Name
+old_name name = record { 0 = name.0 + 2147483648 }
+
 -- what a binding binds, as locals
 abbrev pub bound_locals : Binding → Locals
 bound_locals = map (λ p. (p.0, Holds p.1))
@@ -45,6 +49,11 @@ pub record Held : Type 0 where
 
 abbrev pub slot_held : Held → VarRef → Option Slot
 slot_held held var = option_map (λ (v : VarRef × Slot). v.1) (find (λ (v : VarRef × Slot). is_same_variable var v.0) held.variables)
+
+-- what is held where a variable is named that is static or not: nothing static is held
+abbrev pub held_unless_static : Bool → Option Held → Option Held
+held_unless_static true held = None
+held_unless_static false held = held
 
 -- ---- tests of types
 
@@ -74,9 +83,10 @@ deeper nest place = record { depth = suc nest.depth; test = Some (outermost nest
 pub record Here : Type 0 where
   -- the class in which the node stands; the expression of a run stands in none
   pub scope : Option Name
-  -- the class of the object
+  -- The class of the object, also of a class object and of one that is not made yet. Functions, class values, invariants of types and the
+  -- initialisers of static variables have none.
   pub own : Option Name
-  -- the object: none in the expression of a run and in initialisers
+  -- the object: none in the expression of a run, in initialisers and in static operations
   pub me : Option ℕ
   -- what is held, in a predicate or an instance invariant
   pub held : Option Held
@@ -94,16 +104,31 @@ at here locals = record { here = here; locals = locals }
 abbrev pub outside : Here
 outside = record { scope = None; own = None; me = None; held = None; nest = no_nest }
 
--- the functions, class values, initialisers and invariants of types of a class, which name nothing of an object
+-- the functions, class values and invariants of types of a class, and the initialisers of its static variables
 abbrev pub inside_class : Name → Nest → Here
 inside_class class nest = record { scope = Some class; own = None; me = None; held = None; nest = nest }
 
-abbrev pub initialising : Name → Here
-initialising class = inside_class class no_nest
+-- the initialisers of a class for a new object of its own class, which names nothing of the object
+abbrev pub initialising : Name → Name → Here
+initialising own class = record { scope = Some class; own = Some own; me = None; held = None; nest = no_nest }
+
+-- the static operations of a class, likewise
+abbrev pub static_inside : Name → Here
+static_inside class = initialising class class
 
 -- the body of an operation of a class, on an object and its class
 abbrev pub inside : ℕ → Name → Name → Here
 inside me own class = record { scope = Some class; own = Some own; me = Some me; held = None; nest = no_nest }
+
+-- Whether a node may name variables and operations, and make objects. What it may not, no accepted text does there: so nothing is asked
+-- before all class objects are made.
+abbrev pub may_act : Here → Bool
+may_act here = not (is_some here.scope) || is_some here.own
+
+-- the class of the object on which a node stands, where it stands on one
+abbrev pub object_class : Option ℕ → Option Name → Option Name
+object_class None own = None
+object_class (Some me) own = own
 
 -- the class by which the names of types are found: that of `IO` where the node stands in none
 abbrev pub type_scope : Option Name → Name

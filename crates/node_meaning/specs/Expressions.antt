@@ -1,5 +1,6 @@
 -- What each node of an expression does, one line a kind.
-use Rattle.std.specs.Prelude.{ℕ, zero, suc, Bool, true, false, [], List, length, Option, Some, None, Result, Ok, Err}
+use Rattle.std.specs.Prelude.{ℕ, zero, suc, Bool, true, false, [], ◌∷◌, ◌++◌, if◌then◌else◌, List, length, Option, Some, None, Result, Ok, Err}
+use Rattle.vdm_kinds.specs.NameList.{io}
 use Rattle.vdm_kinds.specs.declared.member.OpRef.{OpRef}
 use Rattle.vdm_kinds.specs.declared.member.VarRef.{VarRef}
 use Rattle.vdm_kinds.specs.declared.name.Name.{Name}
@@ -13,12 +14,15 @@ use Rattle.vdm_kinds.specs.declared.run_fault.RunFault.TheVariants.{NoMatch, Typ
 use Rattle.vdm_kinds.specs.Signs.{sign_operator}
 use Rattle.vdm_values.specs.declared.slot.Slot.{Slot}
 use Rattle.vdm_values.specs.declared.slot.Slot.TheVariants.{Unset, Held as Holds}
-use Rattle.abstract_syntax.specs.Classes.{SpecTree}
+use Rattle.abstract_syntax.specs.Classes.{SpecTree, is_same_name}
 use Rattle.abstract_syntax.specs.Expressions.{
   ExprTree,
   literal,
   named,
   qualified,
+  old_value,
+  self_object,
+  current_time,
   undefined,
   result_value,
   bracketed,
@@ -39,10 +43,15 @@ use Rattle.abstract_syntax.specs.Expressions.{
   is_of_type,
   is_of_named,
   is_of_basic,
+  is_of_class,
+  is_of_base_class,
+  same_class,
+  same_base_class,
   create,
   apply,
   subsequence,
   select,
+  select_of_class,
   select_part,
   let_in,
   let_be,
@@ -77,25 +86,40 @@ use Rattle.abstract_syntax.specs.Expressions.{
   expr_place,
 }
 use Rattle.abstract_syntax.specs.Types.{TypeTree, basic_type, named_type}
-use Rattle.abstract_syntax.specs.Values.{ValueTree, boolean, map_of, no_pairs, object, record_of}
+use Rattle.abstract_syntax.specs.Values.{ValueTree, boolean, character, map_of, no_pairs, no_values, object, one_value, record_of, sequence}
+use Rattle.class_meaning.specs.Classes.{println}
 use Rattle.pattern_meaning.specs.Ways.{literal_value}
 use Rattle.value_operators.specs.Outcomes.{sized}
 use Rattle.plans.specs.Plans.{become, part}
+use Rattle.node_meaning.specs.ClassTests.{ClassTest, in_class, in_base_class, one_class, one_base_class, class_told}
 use Rattle.node_meaning.specs.Choosing.{collects, for_each, for_some, for_one, the_one, takes_first, choosing}
-use Rattle.node_meaning.specs.Envs.{Locals, Nest, Held, slot_held, Here, at, local_named, result_name}
-use Rattle.node_meaning.specs.Fitting.{as_answer, fit_then, fitting_in, typed_maybe}
+use Rattle.node_meaning.specs.Envs.{Locals, Nest, Held, slot_held, held_unless_static, Here, at, may_act, object_class, local_named, result_name, old_name}
+use Rattle.node_meaning.specs.Fitting.{descends, as_answer, fit_then, fitting_in, typed_maybe}
 use Rattle.node_meaning.specs.Functions.{application_of, class_value}
 use Rattle.node_meaning.specs.Matching.{decided, meets}
-use Rattle.node_meaning.specs.Names.{function_in, operation_in, operation_reached, own_reached, value_in, variable_in}
+use Rattle.node_meaning.specs.Names.{
+  function_in,
+  operation_in,
+  operation_reached,
+  own_named,
+  value_in,
+  variable_in,
+  variable_definition,
+  is_static_variable,
+  variable_home,
+  variable_here,
+  found_home,
+  operation_here,
+}
 use Rattle.node_meaning.specs.Needs.{Setting, asked}
 use Rattle.node_meaning.specs.Records.{field_exprs, field_names, field_value, record_changed, record_made}
 use Rattle.node_meaning.specs.Strict.{one_operand, two_operands, a_set, a_sequence, a_tuple, a_map, a_token, a_subsequence, a_component, strict, collected, with_others, make, maplet_exprs}
-use Rattle.node_meaning.specs.Tasks.{expr_in, reads, calls, creates, Code, fault, value, value_or_fault, with_value, evaluated, cut_to}
+use Rattle.node_meaning.specs.Tasks.{expr_in, Need, reads, calls, creates, prints, tells_time, Code, fault, value, value_or_fault, with_value, evaluated, cut_to}
 use Rattle.node_meaning.specs.Wanted.{Wanted, a_value, no_value, given}
 
 -- ---- names
 
--- what a local or a held variable has; an unset one has no value
+-- what a local has; an unset one has no value
 abbrev pub slot_value : Place → Slot → Locals → Code
 slot_value place (Holds v) locals = value v locals
 slot_value place Unset locals = fault Undefined place
@@ -104,19 +128,30 @@ abbrev pub held_value : Place → Option Slot → Locals → Code
 held_value place None locals = fault Undefined place
 held_value place (Some slot) locals = slot_value place slot locals
 
--- a variable of the object is read
+-- a variable of an object is read
 abbrev pub read_on : Setting → Place → VarRef → Option ℕ → Locals → Code
 read_on setting place var None locals = fault Undefined place
 read_on setting place var (Some me) locals = asked setting (reads me var) place locals (with_value place value)
 
--- ... or taken from what is held
+-- ... or taken from what is held. What is held but unset is asked for, as of no object in particular, and nobody gives it: so an
+-- invariant that reads it is told from one that fails.
+abbrev pub slot_read : Setting → Place → VarRef → Slot → Locals → Code
+slot_read setting place var (Holds v) locals = value v locals
+slot_read setting place var Unset locals = read_on setting place var (Some 0) locals
+
+abbrev pub held_read : Setting → Place → VarRef → Option Slot → Locals → Code
+held_read setting place var None locals = read_on setting place var (Some 0) locals
+held_read setting place var (Some slot) locals = slot_read setting place var slot locals
+
 abbrev pub read_held : Setting → Place → VarRef → Option ℕ → Option Held → Locals → Code
 read_held setting place var me None locals = read_on setting place var me locals
-read_held setting place var me (Some held) locals = held_value place (slot_held held var) locals
+read_held setting place var me (Some held) locals = held_read setting place var (slot_held held var) locals
 
 abbrev pub read_found : Setting → Here → Place → Option VarRef → Locals → Code
 read_found setting here place None locals = fault Undefined place
-read_found setting here place (Some var) locals = read_held setting place var here.me here.held locals
+read_found setting here place (Some var) locals =
+    read_held setting place var (variable_here setting.spec here var)
+    (held_unless_static (is_static_variable (variable_definition setting.spec var)) here.held) locals
 
 -- what a name means in a class: a class value, or a variable
 abbrev pub member_value : Setting → Here → Place → Option Name → Name → Option VarRef → Locals → Code
@@ -131,18 +166,33 @@ abbrev pub name_value : Setting → Here → Place → Name → Option Slot → 
 name_value setting here place name (Some slot) locals = slot_value place slot locals
 name_value setting here place name None locals = value_named setting here place here.scope name locals
 
+-- the object on which the node stands
+abbrev pub self_value : Place → Option ℕ → Option Name → Locals → Code
+self_value place (Some me) (Some own) locals = value (object me own) locals
+self_value place _ _ locals = fault Undefined place
+
 -- ---- selections
 
 -- a variable of the object of a number, which has to be one of its class
 abbrev pub read_member : Setting → Place → ℕ → Option VarRef → Locals → Code
 read_member setting place n None locals = fault TypeFault place
-read_member setting place n (Some var) locals = asked setting (reads n var) place locals (with_value place value)
+read_member setting place n (Some var) locals = read_on setting place var (variable_home setting.spec var (Some n)) locals
 
 -- a field of a record, or a variable of an object
 abbrev pub selected : Setting → Place → Name → ValueTree → Locals → Code
 selected setting place name (record_of class type values) locals = value_or_fault place (field_value setting.spec name class type values) locals
 selected setting place name (object n class) locals = read_member setting place n (variable_in setting.spec (Some class) name) locals
 selected setting place name v locals = fault TypeFault place
+
+-- a class for an object of a class that has it among its ancestors
+abbrev pub class_for : SpecTree → Name → Name → Option Name
+class_for spec own class = if descends spec own class then Some class else None
+
+-- what a name means in the class of another name, as a variable of an object
+abbrev pub selected_of_class : Setting → Place → Name → Name → ValueTree → Locals → Code
+selected_of_class setting place class name (object n own) locals =
+    read_member setting place n (variable_in setting.spec (class_for setting.spec own class) name) locals
+selected_of_class setting place class name v locals = fault TypeFault place
 
 -- ---- applications
 
@@ -152,18 +202,45 @@ looked_up here head (one_expr argument no_exprs) place locals =
     strict here (two_operands LookUp) place (one_expr head (one_expr argument no_exprs)) locals
 looked_up here head _ place locals = fault TypeFault place
 
--- So far no operation has parameters, so nothing is called with arguments.
-abbrev pub called_with : Setting → ExprTrees → ℕ → Name → OpRef → Place → Wanted → Locals → Code
-called_with setting no_exprs me own op place wanted locals = asked setting (calls me own op []) place locals (given wanted place)
-called_with setting (one_expr argument arguments) me own op place wanted locals = fault Undefined place
+abbrev pub places_of : ExprTrees → List Place
+places_of no_exprs = []
+places_of (one_expr tree trees) = expr_place tree ∷ places_of trees
+
+-- a line feed, as what is printed
+abbrev pub line_feed : ValueTree
+line_feed = sequence (one_value (character 10) no_values)
+
+-- what an operation of `IO` prints of its arguments
+abbrev pub printed_by : Name → List ValueTree → List ValueTree
+printed_by name vs = if is_same_name name println then vs ++ line_feed ∷ [] else vs
+
+-- What a call with these arguments needs: an operation of `IO` prints them, and each other one is called.
+abbrev pub call_need : ℕ → Name → OpRef → List ValueTree → List Place → Need
+call_need number own op vs places =
+    if is_same_name op.class io then prints (printed_by op.name vs) else calls number own op vs places
+
+abbrev pub call_asked : Setting → ℕ → Name → OpRef → List Place → Place → Wanted → List ValueTree → Locals → Code
+call_asked setting number own op places place wanted vs locals =
+    asked setting (call_need number own op vs places) place locals (given wanted place)
+
+-- The arguments of a call, and then the call. Whoever answers tests them.
+abbrev pub called_with : Setting → Here → ExprTrees → ℕ → Name → OpRef → Place → Wanted → Locals → Code
+called_with setting here arguments number own op place wanted locals =
+    collected here place arguments [] (call_asked setting number own op (places_of arguments) place wanted) locals
 
 -- A call on what has no such operation is a type fault at the call, behind its arguments.
 abbrev pub no_such_call : Place → List ValueTree → Locals → Code
 no_such_call place vs locals = fault TypeFault place
 
-abbrev pub called_on : Setting → Here → ExprTrees → ℕ → Name → Option OpRef → Place → Wanted → Locals → Code
-called_on setting here arguments me own None place wanted locals = collected here place arguments [] (no_such_call place) locals
-called_on setting here arguments me own (Some op) place wanted locals = called_with setting arguments me own op place wanted locals
+-- an operation that was found, on the object on which it runs
+abbrev pub called_on : Setting → Here → ExprTrees → Option ℕ → Name → Option OpRef → Place → Wanted → Locals → Code
+called_on setting here arguments (Some number) own (Some op) place wanted locals = called_with setting here arguments number own op place wanted locals
+called_on setting here arguments _ own _ place wanted locals = collected here place arguments [] (no_such_call place) locals
+
+-- ... through an object of a class
+abbrev pub called_at : Setting → Here → ExprTrees → ℕ → Name → Option OpRef → Place → Wanted → Locals → Code
+called_at setting here arguments number own op place wanted locals =
+    called_on setting here arguments (found_home setting.spec op (Some number)) own op place wanted locals
 
 abbrev pub arguments_of : ExprTrees → ℕ
 arguments_of no_exprs = zero
@@ -180,33 +257,65 @@ abbrev pub field_applied : Here → ExprTrees → Place → Place → Result Val
 field_applied here arguments place dot (Ok v) locals = looked_up_in here arguments place v locals
 field_applied here arguments place dot (Err kind) locals = fault kind dot
 
--- a member of a value: an operation of an object is called, a field of a record looked up in
+-- a variable of an object is read, and looked up in
+abbrev pub read_applied : Setting → Here → ExprTrees → Place → Place → VarRef → Option ℕ → Locals → Code
+read_applied setting here arguments place dot var None locals = fault Undefined dot
+read_applied setting here arguments place dot var (Some home) locals =
+    asked setting (reads home var) dot locals (with_value dot (looked_up_in here arguments place))
+
+abbrev pub variable_applied : Setting → Here → ExprTrees → Place → Place → ℕ → Option VarRef → Locals → Code
+variable_applied setting here arguments place dot number None locals = collected here place arguments [] (no_such_call place) locals
+variable_applied setting here arguments place dot number (Some var) locals =
+    read_applied setting here arguments place dot var (variable_home setting.spec var (Some number)) locals
+
+-- a member of an object of a class: an operation is called, a variable looked up in
+abbrev pub member_applied : Setting → Here → ExprTrees → Place → Place → Wanted → ℕ → Name → Option OpRef → Option VarRef → Locals → Code
+member_applied setting here arguments dot place wanted number own (Some op) var locals =
+    called_at setting here arguments number own (Some op) place wanted locals
+member_applied setting here arguments dot place wanted number own None var locals =
+    variable_applied setting here arguments place dot number var locals
+
+-- a member of a value: one of an object, or a field of a record, which is looked up in
 abbrev pub called_through : Setting → Here → Name → ExprTrees → Place → Place → Wanted → ValueTree → Locals → Code
 called_through setting here name arguments dot place wanted (object number class) locals =
-    called_on setting here arguments number class (operation_reached setting.spec here.scope class name (arguments_of arguments)) place wanted locals
+    member_applied setting here arguments dot place wanted number class
+    (operation_reached setting.spec here.scope class name (arguments_of arguments)) (variable_in setting.spec (Some class) name) locals
 called_through setting here name arguments dot place wanted (record_of class type values) locals =
     field_applied here arguments place dot (field_value setting.spec name class type values) locals
 called_through setting here name arguments dot place wanted v locals = collected here place arguments [] (no_such_call place) locals
 
--- a name is called where it means an operation of the object, and else looked up in
-abbrev pub called_or_looked_up : Setting → Here → ExprTree → ExprTrees → Option ℕ → Option Name → Option OpRef → Place → Wanted → Locals → Code
-called_or_looked_up setting here head arguments (Some me) (Some own) (Some op) place wanted locals =
-    called_with setting arguments me own op place wanted locals
-called_or_looked_up setting here head arguments _ _ _ place wanted locals = looked_up here head arguments place locals
+-- ... by what its name means in the class of another name
+abbrev pub called_of_class : Setting → Here → Name → Name → ExprTrees → Place → Place → Wanted → ValueTree → Locals → Code
+called_of_class setting here class name arguments dot place wanted (object number own) locals =
+    member_applied setting here arguments dot place wanted number own
+    (operation_in setting.spec (class_for setting.spec own class) name (arguments_of arguments))
+    (variable_in setting.spec (class_for setting.spec own class) name) locals
+called_of_class setting here class name arguments dot place wanted v locals = collected here place arguments [] (no_such_call place) locals
+
+-- the class of the object on which the node stands; without one only a static operation is called, which sees none
+abbrev pub own_class : OpRef → Option Name → Name
+own_class op None = op.class
+own_class op (Some own) = own
+
+-- a name is called where it means an operation that has an object to run on, and else looked up in
+abbrev pub called_or_looked_up : Setting → Here → ExprTree → ExprTrees → Option ℕ → Option OpRef → Place → Wanted → Locals → Code
+called_or_looked_up setting here head arguments (Some number) (Some op) place wanted locals =
+    called_with setting here arguments number (own_class op here.own) op place wanted locals
+called_or_looked_up setting here head arguments _ _ place wanted locals = looked_up here head arguments place locals
 
 -- a name that means a function is applied to the arguments; else it may mean this operation
 abbrev pub applied_or_called : Setting → Here → ExprTree → ExprTrees → Option OpRef → Option OpRef → Place → Wanted → Locals → Code
 applied_or_called setting here head arguments (Some function) op place wanted locals =
     application_of setting.spec here function arguments place locals
 applied_or_called setting here head arguments None op place wanted locals =
-    called_or_looked_up setting here head arguments here.me here.own op place wanted locals
+    called_or_looked_up setting here head arguments (operation_here setting.spec here op) op place wanted locals
 
 -- a local hides functions and operations
 abbrev pub name_applied : Setting → Here → ExprTree → Name → ExprTrees → Place → Wanted → Option Slot → Locals → Code
 name_applied setting here head name arguments place wanted (Some slot) locals = looked_up here head arguments place locals
 name_applied setting here head name arguments place wanted None locals =
     applied_or_called setting here head arguments (function_in setting.spec here.scope name (arguments_of arguments))
-    (own_reached setting.spec here.scope here.own name (arguments_of arguments)) place wanted locals
+    (own_named setting.spec here.scope (object_class here.me here.own) name (arguments_of arguments)) place wanted locals
 
 -- what a name means in the class of another name: its own operation, not that of an object's class
 abbrev pub qualified_applied : Setting → Here → ExprTree → Name → Name → ExprTrees → Place → Wanted → Locals → Code
@@ -222,12 +331,31 @@ application setting here (qualified class name name_place class_place) arguments
     qualified_applied setting here (qualified class name name_place class_place) class name arguments place wanted locals
 application setting here (select target name name_place dot) arguments place wanted locals =
     evaluated here locals target place (called_through setting here name arguments dot place wanted)
+application setting here (select_of_class target class class_place name name_place dot) arguments place wanted locals =
+    evaluated here locals target place (called_of_class setting here class name arguments dot place wanted)
 application setting here head arguments place wanted locals = looked_up here head arguments place locals
 
--- so far no class has a constructor
-abbrev pub created_with : Setting → ExprTrees → Name → Place → Locals → Code
-created_with setting no_exprs class place locals = asked setting (creates class []) place locals (with_value place value)
-created_with setting (one_expr argument arguments) class place locals = fault Undefined place
+-- an object that is made with these arguments
+abbrev pub creation_asked : Setting → Name → List Place → Place → List ValueTree → Locals → Code
+creation_asked setting class places place vs locals = asked setting (creates class vs places) place locals (with_value place value)
+
+-- the arguments of a constructor, and then the object, where the node may make one
+abbrev pub created_with : Setting → Here → ExprTrees → Name → Place → Locals → Code
+created_with setting here arguments class place locals =
+    if may_act here then collected here place arguments [] (creation_asked setting class (places_of arguments) place) locals
+    else fault Undefined place
+
+-- ---- the time
+
+-- how many ticks there were, where the node may ask for it
+abbrev pub time_told : Setting → Here → Place → Locals → Code
+time_told setting here place locals =
+    if may_act here then asked setting tells_time place locals (with_value place value) else fault Undefined place
+
+-- ---- tests of classes
+
+abbrev pub class_tested : SpecTree → Here → ClassTest → Place → ExprTrees → Locals → Code
+class_tested spec here test place trees locals = collected here place trees [] (class_told spec test) locals
 
 -- ---- operators that stop when decided
 
@@ -317,6 +445,9 @@ abbrev pub expr_plan : Setting → Here → Locals → ExprTree → Code
 expr_plan setting here locals (literal written place) = value_or_fault place (sized (literal_value written)) locals
 expr_plan setting here locals (named name place) = name_value setting here place name (local_named locals name) locals
 expr_plan setting here locals (qualified class name name_place place) = value_named setting here place (Some class) name locals
+expr_plan setting here locals (old_value name place) = held_value place (local_named locals (old_name name)) locals
+expr_plan setting here locals (self_object place) = self_value place here.me here.own locals
+expr_plan setting here locals (current_time place) = time_told setting here place locals
 expr_plan setting here locals (undefined place) = fault Undefined place
 expr_plan setting here locals (result_value place) = held_value place (local_named locals result_name) locals
 expr_plan setting here locals (bracketed inner place) = become (expr_in (at here locals) inner)
@@ -346,9 +477,19 @@ expr_plan setting here locals (is_of_named t tree place) =
     evaluated here locals tree place (fit_value setting.spec here.nest here.scope (named_type t place) place)
 expr_plan setting here locals (is_of_basic basic tree place) =
     evaluated here locals tree place (fit_value setting.spec here.nest here.scope (basic_type basic place) place)
-expr_plan setting here locals (create class class_place arguments place) = created_with setting arguments class place locals
+expr_plan setting here locals (is_of_class class class_place tree place) =
+    class_tested setting.spec here (in_class class) place (one_expr tree no_exprs) locals
+expr_plan setting here locals (is_of_base_class class class_place tree place) =
+    class_tested setting.spec here (in_base_class class) place (one_expr tree no_exprs) locals
+expr_plan setting here locals (same_class left right place) =
+    class_tested setting.spec here one_class place (one_expr left (one_expr right no_exprs)) locals
+expr_plan setting here locals (same_base_class left right place) =
+    class_tested setting.spec here one_base_class place (one_expr left (one_expr right no_exprs)) locals
+expr_plan setting here locals (create class class_place arguments place) = created_with setting here arguments class place locals
 expr_plan setting here locals (apply head arguments place) = application setting here head arguments place a_value locals
 expr_plan setting here locals (select target name name_place place) = evaluated here locals target place (selected setting place name)
+expr_plan setting here locals (select_of_class target class class_place name name_place place) =
+    evaluated here locals target place (selected_of_class setting place class name)
 expr_plan setting here locals (subsequence target from to place) =
     strict here a_subsequence place (one_expr target (one_expr from (one_expr to no_exprs))) locals
 expr_plan setting here locals (select_part target number place) = strict here (a_component number) place (one_expr target no_exprs) locals

@@ -1,4 +1,5 @@
 pub mod Choosing
+pub mod ClassTests
 pub mod Envs
 pub mod Expressions
 pub mod Faults

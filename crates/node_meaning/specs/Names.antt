@@ -1,5 +1,5 @@
 -- What names stand for, by the table of the classes.
-use Rattle.std.specs.Prelude.{ℕ, List, Option, Some, None, option_map}
+use Rattle.std.specs.Prelude.{ℕ, Bool, true, false, if◌then◌else◌, List, Option, Some, None, is_some, option_map}
 use Rattle.std.specs.Option.{option_and_then}
 use Rattle.vdm_kinds.specs.declared.member.OpRef.{OpRef}
 use Rattle.vdm_kinds.specs.declared.member.VarRef.{VarRef}
@@ -16,6 +16,7 @@ use Rattle.class_meaning.specs.declared.found.VarFound.TheVariants.{One, Several
 use Rattle.class_meaning.specs.Found.{own_in}
 use Rattle.class_meaning.specs.Members.{Member, of_value, of_variable, of_function, of_operation}
 use Rattle.class_meaning.specs.declared.ask.Ask.TheVariants.{ByName, Called}
+use Rattle.node_meaning.specs.Envs.{Here, may_act}
 
 -- the number of a class that may be named
 abbrev pub number_of : SpecTree → Option Name → Option ℕ
@@ -85,7 +86,7 @@ function_in spec (Some class) name arity =
 
 -- ---- operations
 
--- ... and the operation, which ``C`op`` means
+-- ... and the operation, which ``C`op`` means whatever the class of the object
 abbrev pub operation_in : SpecTree → Option Name → Name → ℕ → Option OpRef
 operation_in spec None name arity = None
 operation_in spec (Some class) name arity =
@@ -104,7 +105,51 @@ abbrev pub operation_reached : SpecTree → Option Name → Name → Name → �
 operation_reached spec scope class name arity =
     option_and_then (λ (k : ℕ). reached spec (number_of spec scope) k name arity) (class_number spec class)
 
--- ... and without an object before it: through the object on which the node stands, where it stands on one
+-- ... and without an object before it: through the object of a class on which the node stands; where it stands on none, the one that its
+-- class has
 abbrev pub own_reached : SpecTree → Option Name → Option Name → Name → ℕ → Option OpRef
-own_reached spec scope None name arity = None
+own_reached spec scope None name arity = operation_in spec scope name arity
 own_reached spec scope (Some own) name arity = operation_reached spec scope own name arity
+
+-- ... where the name means an operation in the class in which it stands: what it means otherwise hides those of classes below
+abbrev pub own_named : SpecTree → Option Name → Option Name → Name → ℕ → Option OpRef
+own_named spec scope own name arity = if is_some (operation_in spec scope name arity) then own_reached spec scope own name arity else None
+
+-- ---- homes
+
+-- Where a class's definition stands: on its class object where it is static, whoever names it, else on the object that there is.
+abbrev pub home : SpecTree → Name → Bool → Option ℕ → Option ℕ
+home spec class true object = class_number spec class
+home spec class false object = object
+
+-- what has no definition is not static
+abbrev pub is_static_variable : Option VariableTree → Bool
+is_static_variable None = false
+is_static_variable (Some v) = v.access.is_static
+
+abbrev pub is_static_operation : Option OperationTree → Bool
+is_static_operation None = false
+is_static_operation (Some o) = o.access.is_static
+
+-- the object on which a variable stands, where this object was named, or that of the node
+abbrev pub variable_home : SpecTree → VarRef → Option ℕ → Option ℕ
+variable_home spec var object = home spec var.class (is_static_variable (variable_definition spec var)) object
+
+-- the object on which an operation runs
+abbrev pub operation_home : SpecTree → OpRef → Option ℕ → Option ℕ
+operation_home spec op object = home spec op.class (is_static_operation (operation_definition spec op)) object
+
+-- ... where one was found
+abbrev pub found_home : SpecTree → Option OpRef → Option ℕ → Option ℕ
+found_home spec None object = None
+found_home spec (Some op) object = operation_home spec op object
+
+-- where what a name alone means stands, or what it means behind a class: nowhere for a node that may not name it
+abbrev pub home_for : Here → Option ℕ → Option ℕ
+home_for here number = if may_act here then number else None
+
+abbrev pub variable_here : SpecTree → Here → VarRef → Option ℕ
+variable_here spec here var = home_for here (variable_home spec var here.me)
+
+abbrev pub operation_here : SpecTree → Here → Option OpRef → Option ℕ
+operation_here spec here op = home_for here (found_home spec op here.me)

@@ -66,18 +66,20 @@ pub data Flow : Type 0 where
 pub data Need : Type 0 where
   -- a variable of an object is read
   reads : ℕ → VarRef → Need
-  -- an operation is called on an object, with its class and the arguments
-  calls : ℕ → Name → OpRef → List ValueTree → Need
-  -- an object of a class is made, with the arguments of its constructor
-  creates : Name → List ValueTree → Need
-  -- a text is printed
+  -- an operation is called on an object, with its class, and the arguments with their places
+  calls : ℕ → Name → OpRef → List ValueTree → List Place → Need
+  -- an object of a class is made, with the arguments of its constructor and their places
+  creates : Name → List ValueTree → List Place → Need
+  -- values are printed, one after another
   prints : List ValueTree → Need
   -- the time is told
   tells_time : Need
 
--- what is asked: a question that an entry answers, or a need as such
+-- What is asked: a question that an entry answers; that values are printed, which is such a question once their texts are written, over
+-- the names of the texts that run; or a need as such.
 pub data Query : Type 0 where
   noted : Question → Query
+  printing : List ValueTree → Query
   needed : Need → Query
 
 -- what a thread does

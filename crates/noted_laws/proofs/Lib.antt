@@ -11,4 +11,5 @@ pub mod NotedTargets
 pub mod NotedTasks
 pub mod Noting
 pub mod OnlyAsked
+pub mod Printed
 pub mod Staying

@@ -7,28 +7,31 @@ use Rattle.vdm_kinds.specs.declared.operator.Operator.{Operator}
 use Rattle.vdm_kinds.specs.declared.operator.Operator.TheVariants.{Interval, LookUp}
 use Rattle.vdm_kinds.specs.declared.place.Place.{Place}
 use Rattle.vdm_kinds.specs.declared.run_fault.RunFault.{RunFault}
+use Rattle.vdm_kinds.specs.declared.run_fault.RunFault.TheVariants.{Undefined}
 use Rattle.vdm_kinds.specs.declared.sign.Sign.{Sign}
 use Rattle.vdm_kinds.specs.Signs.{sign_operator}
 use Rattle.vdm_values.specs.declared.slot.Slot.{Slot}
 use Rattle.vdm_values.specs.declared.slot.Slot.TheVariants.{Unset, Held as Holds}
 use Rattle.abstract_syntax.specs.Types.{TypeTree, basic_type, named_type}
 use Rattle.abstract_syntax.specs.Values.{ValueTree, object, record_of}
-use Rattle.abstract_syntax.specs.Expressions.{ExprTree, literal, named, qualified, result_value, bracketed, prefixed, joined, set_enumeration, set_range, set_comprehension, empty_map, map_enumeration, map_comprehension, sequence_enumeration, sequence_comprehension, make_tuple, make_token, make_record, modify_record, is_of_type, is_of_named, is_of_basic, create, apply, subsequence, select, select_part, let_in, let_be, def_in, if_else, cases_of, for_all, exists_some, exists_one, iota_of, ExprTrees, no_exprs, one_expr, MaybeExpr, left_out, given_expr, DefinedTrees, no_defined, one_defined, BranchTrees, no_branches, one_branch, CaseTrees, no_cases, one_case, bind_in, no_binds, one_bind, PatternTrees, no_patterns, one_pattern}
+use Rattle.abstract_syntax.specs.Expressions.{ExprTree, literal, named, qualified, old_value, self_object, current_time, result_value, bracketed, prefixed, joined, set_enumeration, set_range, set_comprehension, empty_map, map_enumeration, map_comprehension, sequence_enumeration, sequence_comprehension, make_tuple, make_token, make_record, modify_record, is_of_type, is_of_named, is_of_basic, is_of_class, is_of_base_class, same_class, same_base_class, create, apply, subsequence, select, select_of_class, select_part, let_in, let_be, def_in, if_else, cases_of, for_all, exists_some, exists_one, iota_of, ExprTrees, no_exprs, one_expr, MaybeExpr, left_out, given_expr, DefinedTrees, no_defined, one_defined, BranchTrees, no_branches, one_branch, CaseTrees, no_cases, one_case, bind_in, no_binds, one_bind, PatternTrees, no_patterns, one_pattern}
 use Rattle.abstract_syntax.specs.Classes.{SpecTree}
 use Rattle.value_operators.specs.Outcomes.{sized}
 use Rattle.pattern_meaning.specs.Ways.{literal_value}
 use Rattle.node_meaning.specs.Wanted.{Wanted, a_value, given}
+use Rattle.node_meaning.specs.ClassTests.{ClassTest, in_class, in_base_class, one_class, one_base_class, class_told}
 use Rattle.node_meaning.specs.Choosing.{collects, for_each, for_some, for_one, the_one, takes_first}
-use Rattle.node_meaning.specs.Envs.{Locals, Held, slot_held, Here, local_named, result_name}
-use Rattle.node_meaning.specs.Expressions.{slot_value, held_value, read_on, read_held, read_found, member_value, value_named, name_value, read_member, selected, looked_up, called_with, no_such_call, called_on, arguments_of, looked_up_in, field_applied, called_through, called_or_looked_up, applied_or_called, name_applied, qualified_applied, application, created_with, decided_by, truth, unless_decided, right_truth, joined_by, prefixed_by, branch, branches, within, no_match, others_of, patterns_met, cases_met, defined, definitions, fit_value, expr_plan}
+use Rattle.node_meaning.specs.Envs.{Locals, Held, held_unless_static, slot_held, Here, may_act, object_class, local_named, old_name, result_name}
+use Rattle.node_meaning.specs.Expressions.{slot_value, held_value, slot_read, held_read, read_on, read_held, read_found, member_value, value_named, name_value, read_member, selected, selected_of_class, self_value, looked_up, call_asked, call_need, called_at, called_of_class, called_with, class_for, creation_asked, member_applied, own_class, read_applied, places_of, no_such_call, called_on, arguments_of, looked_up_in, field_applied, called_through, called_or_looked_up, applied_or_called, name_applied, qualified_applied, application, created_with, decided_by, truth, unless_decided, right_truth, joined_by, prefixed_by, branch, branches, within, no_match, others_of, patterns_met, cases_met, defined, definitions, fit_value, expr_plan, time_told, class_tested}
 use Rattle.node_meaning.specs.Fitting.{typed_maybe}
 use Rattle.node_meaning.specs.Matching.{meets}
-use Rattle.node_meaning.specs.Names.{function_in, operation_in, operation_reached, own_reached, value_in, variable_in}
+use Rattle.node_meaning.specs.Needs.{asked}
+use Rattle.node_meaning.specs.Names.{found_home, function_in, is_static_variable, operation_here, operation_in, operation_reached, own_named, value_in, variable_definition, variable_here, variable_home, variable_in}
 use Rattle.node_meaning.specs.Records.{field_exprs, field_names, field_value, record_changed, record_made, record_type}
 use Rattle.node_meaning.specs.Strict.{one_operand, two_operands, a_set, a_sequence, a_tuple, a_map, a_token, a_subsequence, a_component, collected, make, maplet_exprs}
-use Rattle.node_meaning.specs.Tasks.{Flow, reads, calls, creates, Code, value, with_value, evaluated}
+use Rattle.node_meaning.specs.Tasks.{Flow, reads, creates, tells_time, Code, fault, value, with_value, evaluated}
 use Rattle.stmt_meaning.specs.Questions.{of_thread}
-use Rattle.noted_laws.proofs.Noting.{Notes, Onward, OnwardWith, notes-collected, notes-cut_to, notes-decided, notes-evaluated, notes-fit_value, notes-make, notes-meets, notes-strict, notes-typed_maybe, notes-value_or_fault, notes-with_value}
+use Rattle.noted_laws.proofs.Noting.{Notes, Onward, OnwardWith, notes-collected, notes-cut_to, notes-decided, notes-evaluated, notes-fit_value, notes-if, notes-make, notes-meets, notes-strict, notes-typed_maybe, notes-value_or_fault, notes-with_value}
 use Rattle.noted_laws.proofs.NotedCalls.{notes-asked, notes-given}
 use Rattle.noted_laws.proofs.NotedChoices.{notes-choosing}
 use Rattle.noted_laws.proofs.NotedFunctions.{notes-application_of, notes-class_value}
@@ -52,13 +55,22 @@ module _ (spec : SpecTree) (here : Here) (place : Place) where
   notes-read_on var None locals = tt
   notes-read_on var (Some me) locals = notes-asked spec (reads me var) place locals (with_value place value) notes-value
 
+  notes-slot_read : (var : VarRef) (slot : Slot) → Onward (slot_read (of_thread spec) place var slot)
+  notes-slot_read var (Holds v) locals = tt
+  notes-slot_read var Unset locals = notes-read_on var (Some 0) locals
+
+  notes-held_read : (var : VarRef) (found : Option Slot) → Onward (held_read (of_thread spec) place var found)
+  notes-held_read var None locals = notes-read_on var (Some 0) locals
+  notes-held_read var (Some slot) locals = notes-slot_read var slot locals
+
   notes-read_held : (var : VarRef) (me : Option ℕ) (held : Option Held) → Onward (read_held (of_thread spec) place var me held)
   notes-read_held var me None locals = notes-read_on var me locals
-  notes-read_held var me (Some held) locals = notes-held_value (slot_held held var) locals
+  notes-read_held var me (Some held) locals = notes-held_read var (slot_held held var) locals
 
   notes-read_found : (found : Option VarRef) → Onward (read_found (of_thread spec) here place found)
   notes-read_found None locals = tt
-  notes-read_found (Some var) locals = notes-read_held var here.me here.held locals
+  notes-read_found (Some var) locals =
+      notes-read_held var (variable_here spec here var) (held_unless_static (is_static_variable (variable_definition spec var)) here.held) locals
 
   notes-member_value : (scope : Option Name) (name : Name) (found : Option VarRef) → Onward (member_value (of_thread spec) here place scope name found)
   notes-member_value scope name (Some ref) locals = notes-class_value spec ref place here.nest locals
@@ -75,12 +87,20 @@ module _ (spec : SpecTree) (here : Here) (place : Place) where
 
   notes-read_member : (n : ℕ) (found : Option VarRef) → Onward (read_member (of_thread spec) place n found)
   notes-read_member n None locals = tt
-  notes-read_member n (Some var) locals = notes-read_on var (Some n) locals
+  notes-read_member n (Some var) locals = notes-read_on var (variable_home spec var (Some n)) locals
 
   notes-selected : (name : Name) → OnwardWith (selected (of_thread spec) place name)
   notes-selected name (record_of class type values) locals = notes-value_or_fault place (field_value spec name class type values) locals
   notes-selected name (object n class) locals = notes-read_member n (variable_in spec (Some class) name) locals
   notes-selected name v locals = tt
+
+  notes-selected_of_class : (class name : Name) → OnwardWith (selected_of_class (of_thread spec) place class name)
+  notes-selected_of_class class name (object n own) locals = notes-read_member n (variable_in spec (class_for spec own class) name) locals
+  notes-selected_of_class class name v locals = tt
+
+  notes-self : (me : Option ℕ) (own : Option Name) → Onward (self_value place me own)
+  notes-self (Some me) (Some own) locals = tt
+  notes-self _ _ locals = tt
 
   -- ---- applications
 
@@ -101,33 +121,53 @@ module _ (spec : SpecTree) (here : Here) (place : Place) where
   notes-field_applied arguments dot (Err kind) locals = tt
 
   module _ (wanted : Wanted) where
-    notes-called_with : (arguments : ExprTrees) (me : ℕ) (own : Name) (op : OpRef) → Onward (called_with (of_thread spec) arguments me own op place wanted)
-    notes-called_with no_exprs me own op locals = notes-asked spec (calls me own op []) place locals (given wanted place) (notes-given wanted place)
-    notes-called_with (one_expr argument arguments) me own op locals = tt
+    notes-called_with : (arguments : ExprTrees) (number : ℕ) (own : Name) (op : OpRef) → Onward (called_with (of_thread spec) here arguments number own op place wanted)
+    notes-called_with arguments number own op =
+        notes-collected here place arguments [] (call_asked (of_thread spec) number own op (places_of arguments) place wanted)
+        (λ vs locals. notes-asked spec (call_need number own op vs (places_of arguments)) place locals (given wanted place) (notes-given wanted place))
 
-    notes-called_on : (arguments : ExprTrees) (me : ℕ) (own : Name) (op : Option OpRef) → Onward (called_on (of_thread spec) here arguments me own op place wanted)
-    notes-called_on arguments me own None locals = notes-no_such_call arguments locals
-    notes-called_on arguments me own (Some op) locals = notes-called_with arguments me own op locals
+    notes-called_on : (arguments : ExprTrees) (number : Option ℕ) (own : Name) (op : Option OpRef) → Onward (called_on (of_thread spec) here arguments number own op place wanted)
+    notes-called_on arguments (Some number) own (Some op) locals = notes-called_with arguments number own op locals
+    notes-called_on arguments _ own _ locals = notes-no_such_call arguments locals
+
+    notes-called_at : (arguments : ExprTrees) (number : ℕ) (own : Name) (op : Option OpRef) → Onward (called_at (of_thread spec) here arguments number own op place wanted)
+    notes-called_at arguments number own op = notes-called_on arguments (found_home spec op (Some number)) own op
+
+    notes-read_applied : (arguments : ExprTrees) (dot : Place) (var : VarRef) (home : Option ℕ) → Onward (read_applied (of_thread spec) here arguments place dot var home)
+    notes-read_applied arguments dot var None locals = tt
+    notes-read_applied arguments dot var (Some home) locals =
+        notes-asked spec (reads home var) dot locals (with_value dot (looked_up_in here arguments place)) (notes-with_value dot (looked_up_in here arguments place) (notes-looked_up_in arguments))
+
+    notes-member_applied : (arguments : ExprTrees) (dot : Place) (number : ℕ) (own : Name) (op : Option OpRef) (var : Option VarRef) → Onward (member_applied (of_thread spec) here arguments dot place wanted number own op var)
+    notes-member_applied arguments dot number own (Some op) var locals = notes-called_at arguments number own (Some op) locals
+    notes-member_applied arguments dot number own None None locals = notes-no_such_call arguments locals
+    notes-member_applied arguments dot number own None (Some var) locals = notes-read_applied arguments dot var (variable_home spec var (Some number)) locals
 
     notes-called_through : (name : Name) (arguments : ExprTrees) (dot : Place) → OnwardWith (called_through (of_thread spec) here name arguments dot place wanted)
     notes-called_through name arguments dot (object n class) locals =
-        notes-called_on arguments n class (operation_reached spec here.scope class name (arguments_of arguments)) locals
+        notes-member_applied arguments dot n class (operation_reached spec here.scope class name (arguments_of arguments)) (variable_in spec (Some class) name) locals
     notes-called_through name arguments dot (record_of class type values) locals =
         notes-field_applied arguments dot (field_value spec name class type values) locals
     notes-called_through name arguments dot v locals = notes-no_such_call arguments locals
 
-    notes-called_or_looked_up : (head : ExprTree) (arguments : ExprTrees) (me : Option ℕ) (own : Option Name) (op : Option OpRef) → Onward (called_or_looked_up (of_thread spec) here head arguments me own op place wanted)
-    notes-called_or_looked_up head arguments (Some me) (Some own) (Some op) locals = notes-called_with arguments me own op locals
-    notes-called_or_looked_up head arguments _ _ _ locals = notes-looked_up head arguments locals
+    notes-called_of_class : (class name : Name) (arguments : ExprTrees) (dot : Place) → OnwardWith (called_of_class (of_thread spec) here class name arguments dot place wanted)
+    notes-called_of_class class name arguments dot (object n own) locals =
+        notes-member_applied arguments dot n own (operation_in spec (class_for spec own class) name (arguments_of arguments))
+        (variable_in spec (class_for spec own class) name) locals
+    notes-called_of_class class name arguments dot v locals = notes-no_such_call arguments locals
+
+    notes-called_or_looked_up : (head : ExprTree) (arguments : ExprTrees) (number : Option ℕ) (op : Option OpRef) → Onward (called_or_looked_up (of_thread spec) here head arguments number op place wanted)
+    notes-called_or_looked_up head arguments (Some number) (Some op) locals = notes-called_with arguments number (own_class op here.own) op locals
+    notes-called_or_looked_up head arguments _ _ locals = notes-looked_up head arguments locals
 
     notes-applied_or_called : (head : ExprTree) (arguments : ExprTrees) (function op : Option OpRef) → Onward (applied_or_called (of_thread spec) here head arguments function op place wanted)
     notes-applied_or_called head arguments (Some function) op locals = notes-application_of spec here function arguments place locals
-    notes-applied_or_called head arguments None op locals = notes-called_or_looked_up head arguments here.me here.own op locals
+    notes-applied_or_called head arguments None op locals = notes-called_or_looked_up head arguments (operation_here spec here op) op locals
 
     notes-name_applied : (head : ExprTree) (name : Name) (arguments : ExprTrees) (local : Option Slot) → Onward (name_applied (of_thread spec) here head name arguments place wanted local)
     notes-name_applied head name arguments (Some slot) locals = notes-looked_up head arguments locals
     notes-name_applied head name arguments None locals =
-        notes-applied_or_called head arguments (function_in spec here.scope name (arguments_of arguments)) (own_reached spec here.scope here.own name (arguments_of arguments)) locals
+        notes-applied_or_called head arguments (function_in spec here.scope name (arguments_of arguments)) (own_named spec here.scope (object_class here.me here.own) name (arguments_of arguments)) locals
 
     notes-qualified_applied : (head : ExprTree) (class name : Name) (arguments : ExprTrees) → Onward (qualified_applied (of_thread spec) here head class name arguments place wanted)
     notes-qualified_applied head class name arguments locals =
@@ -139,11 +179,25 @@ module _ (spec : SpecTree) (here : Here) (place : Place) where
         notes-qualified_applied (qualified class name name_place class_place) class name arguments locals
     notes-application (select target name name_place dot) arguments locals =
         notes-evaluated here locals target place (called_through (of_thread spec) here name arguments dot place wanted) (notes-called_through name arguments dot)
+    notes-application (select_of_class target class class_place name name_place dot) arguments locals =
+        notes-evaluated here locals target place (called_of_class (of_thread spec) here class name arguments dot place wanted) (notes-called_of_class class name arguments dot)
     notes-application head arguments locals = notes-looked_up head arguments locals
 
-  notes-created_with : (arguments : ExprTrees) (class : Name) → Onward (created_with (of_thread spec) arguments class place)
-  notes-created_with no_exprs class locals = notes-asked spec (creates class []) place locals (with_value place value) notes-value
-  notes-created_with (one_expr argument arguments) class locals = tt
+  notes-created_with : (arguments : ExprTrees) (class : Name) → Onward (created_with (of_thread spec) here arguments class place)
+  notes-created_with arguments class locals =
+      notes-if (may_act here) (collected here place arguments [] (creation_asked (of_thread spec) class (places_of arguments) place) locals) (fault Undefined place)
+      (notes-collected here place arguments [] (creation_asked (of_thread spec) class (places_of arguments) place)
+      (λ vs after. notes-asked spec (creates class vs (places_of arguments)) place after (with_value place value) notes-value) locals)
+      tt
+
+  notes-time_told : Onward (time_told (of_thread spec) here place)
+  notes-time_told locals =
+      notes-if (may_act here) (asked (of_thread spec) tells_time place locals (with_value place value)) (fault Undefined place)
+      (notes-asked spec tells_time place locals (with_value place value) notes-value)
+      tt
+
+  notes-class_tested : (test : ClassTest) (trees : ExprTrees) → Onward (class_tested spec here test place trees)
+  notes-class_tested test trees = notes-collected here place trees [] (class_told spec test) (λ vs after. tt)
 
   -- ---- operators
 
@@ -210,6 +264,9 @@ module _ (spec : SpecTree) (here : Here) (locals : Locals) where
   notes-expr (literal tree place) = notes-value_or_fault place (sized (literal_value tree)) locals
   notes-expr (named name place) = notes-name spec here place name (local_named locals name) locals
   notes-expr (qualified class name name_place place) = notes-value_named spec here place (Some class) name locals
+  notes-expr (old_value name place) = notes-held_value spec here place (local_named locals (old_name name)) locals
+  notes-expr (self_object place) = notes-self spec here place here.me here.own locals
+  notes-expr (current_time place) = notes-time_told spec here place locals
   notes-expr (result_value place) = notes-held_value spec here place (local_named locals result_name) locals
   notes-expr (bracketed inner place) = tt
   notes-expr (prefixed sign tree place) = notes-prefixed_by spec here place (sign_operator sign) tree locals
@@ -234,10 +291,18 @@ module _ (spec : SpecTree) (here : Here) (locals : Locals) where
   notes-expr (is_of_type tree t place) = notes-fit tree t place
   notes-expr (is_of_named t tree place) = notes-fit tree (named_type t place) place
   notes-expr (is_of_basic basic tree place) = notes-fit tree (basic_type basic place) place
+  notes-expr (is_of_class class class_place tree place) = notes-class_tested spec here place (in_class class) (one_expr tree no_exprs) locals
+  notes-expr (is_of_base_class class class_place tree place) =
+      notes-class_tested spec here place (in_base_class class) (one_expr tree no_exprs) locals
+  notes-expr (same_class left right place) = notes-class_tested spec here place one_class (one_expr left (one_expr right no_exprs)) locals
+  notes-expr (same_base_class left right place) =
+      notes-class_tested spec here place one_base_class (one_expr left (one_expr right no_exprs)) locals
   notes-expr (create class class_place arguments place) = notes-created_with spec here place arguments class locals
   notes-expr (apply head arguments place) = notes-application spec here place a_value head arguments locals
   notes-expr (select target name name_place place) =
       notes-evaluated here locals target place (selected (of_thread spec) place name) (notes-selected spec here place name)
+  notes-expr (select_of_class target class class_place name name_place place) =
+      notes-evaluated here locals target place (selected_of_class (of_thread spec) place class name) (notes-selected_of_class spec here place class name)
   notes-expr (subsequence target from to place) = notes-strict here a_subsequence place (one_expr target (one_expr from (one_expr to no_exprs))) locals
   notes-expr (select_part target number place) = notes-strict here (a_component number) place (one_expr target no_exprs) locals
   notes-expr (let_in definitions body place) = notes-defined spec here place (length locals) definitions body locals

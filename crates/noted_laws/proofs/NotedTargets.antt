@@ -10,7 +10,7 @@ use Rattle.run_journal.specs.declared.answer.Answer.{Answer}
 use Rattle.run_journal.specs.declared.answer.Answer.TheVariants.{Refused}
 use Rattle.run_journal.specs.declared.write.Write.{Write as Pair}
 use Rattle.value_operators.specs.Outcomes.{Outcome}
-use Rattle.stmt_meaning.specs.Targets.{Goal, to_local, to_variable, goal_of, target_steps, indices, changed_by, goal_typed, local_read, goal_read, changed_typed, goal_changed, goal_given, written, write_of, stored, assigned, written_together, joined_goal, together}
+use Rattle.stmt_meaning.specs.Targets.{Goal, to_local, to_variable, goal_of, target_steps, indices, changed_by, goal_typed, local_read, goal_read, changed_typed, goal_changed, goal_given, written, write_of, stored, assigned, written_together, joined_goal, object_of_first, together}
 use Rattle.node_meaning.specs.Envs.{Locals, no_nest, Here, local_named}
 use Rattle.node_meaning.specs.Matching.{exprs_of}
 use Rattle.node_meaning.specs.Needs.{slot_in}
@@ -78,5 +78,5 @@ module _ (spec : SpecTree) (here : Here) (place : Place) where
   pub notes-together : (assignments : List AssignmentTree) (object : Option ℕ) (pairs : List Pair) → Onward (together spec here place assignments object pairs)
   notes-together [] object pairs locals = notes-written_together object pairs locals
   notes-together (a ∷ assignments) object pairs locals =
-      notes-joined_goal (goal_of spec here [] a.target) (target_steps a.target) a.value (λ me pair. together spec here place assignments (Some me) (pairs ++ pair ∷ []))
-      (λ me pair. notes-together assignments (Some me) (pairs ++ pair ∷ [])) locals
+      notes-joined_goal (goal_of spec here [] a.target) (target_steps a.target) a.value (λ me pair. together spec here place assignments (object_of_first object me) (pairs ++ pair ∷ []))
+      (λ me pair. notes-together assignments (object_of_first object me) (pairs ++ pair ∷ [])) locals

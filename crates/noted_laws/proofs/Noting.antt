@@ -14,18 +14,27 @@ use Rattle.abstract_syntax.specs.Classes.{InvariantTree, VariableTree, SpecTree}
 use Rattle.type_meaning.specs.Tests.{Fitting, fits, wrong_type, wrong_invariant, Decision, decided as known, asks}
 use Rattle.pattern_meaning.specs.Bindings.{Binding}
 use Rattle.pattern_meaning.specs.Brackets.{given_in}
+use Rattle.run_journal.specs.declared.question.Question.{Question}
+use Rattle.run_journal.specs.declared.question.Question.TheVariants.{Print}
 use Rattle.plans.specs.Plans.{finish, fail, ask, part, become}
 use Rattle.node_meaning.specs.Envs.{Here, Locals, Nest, no_nest, deeper, inside_class, bound_locals}
 use Rattle.node_meaning.specs.Fitting.{arguments_typed, as_answer, by_holding, fit_then, fitted, fitted_maybe, fitting_in, if_fits, invariant_of, slot_typed, slots_typed, typed, typed_maybe}
 use Rattle.node_meaning.specs.Matching.{are_within_limits, bound_or, decided, exprs_of, first_match, meets, met, on_truth}
 use Rattle.node_meaning.specs.Names.{variable_definition}
 use Rattle.node_meaning.specs.Strict.{Strict, collected, made_of, make, strict}
-use Rattle.node_meaning.specs.Tasks.{Declared, all_among, among, placed, Code, Flow, gave, next, returned, exited, Query, noted, needed, fault, value_or_fault, with_value, evaluated, cut_to}
+use Rattle.node_meaning.specs.Tasks.{Declared, all_among, among, placed, Code, Flow, gave, next, returned, exited, Query, noted, printing, needed, fault, value_or_fault, with_value, evaluated, cut_to}
+use Rattle.stmt_meaning.specs.Calls.{values_typed}
 use Rattle.noted_laws.proofs.OnlyAsked.{AsksOnly, bind-asks}
+
+-- what is printed is never asked for as a text: that is made of values where the thread stands
+abbrev pub IsNoPrint : Question → Type 0
+IsNoPrint (Print text) = ⊥
+IsNoPrint _ = Unit {0}
 
 -- an entry answers it: it is no need as such
 abbrev pub IsNoted : Query → Type 0
-IsNoted (noted question) = Unit {0}
+IsNoted (noted question) = IsNoPrint question
+IsNoted (printing vs) = Unit {0}
 IsNoted (needed need) = ⊥
 
 abbrev pub Notes : Code → Type 0
@@ -153,6 +162,12 @@ module _ (spec : SpecTree) (nest : Nest) where
     notes-arguments_typed (t ∷ ts) (one_expr tree trees) (v ∷ vs) further h locals =
         notes-typed t (expr_place tree) (λ fitting_v after. arguments_typed spec nest scope ts trees vs further after) (λ fitting_v. notes-arguments_typed ts trees vs further h) v locals
     notes-arguments_typed _ _ _ further h locals = h locals
+
+pub notes-values_typed : (spec : SpecTree) (scope : Option Name) (types : List TypeTree) (places : List Place) (vs : List ValueTree) (further : Locals → Code) → Onward further → Onward (values_typed spec scope types places vs further)
+notes-values_typed spec scope (t ∷ ts) (place ∷ places) (v ∷ vs) further h locals =
+    notes-typed spec no_nest scope t place (λ fitting_v after. values_typed spec scope ts places vs further after)
+    (λ fitting_v. notes-values_typed spec scope ts places vs further h) v locals
+notes-values_typed spec scope _ _ _ further h locals = h locals
 
 module _ (spec : SpecTree) (place : Place) where
   notes-slot_typed : (class : Name) (variable : Option VariableTree) (slot : Slot) (further : Locals → Code) → Onward further → Onward (slot_typed spec place class variable slot further)

@@ -1,6 +1,6 @@
-//! What a thread asks for, entries answer; and once it is over it stays so. Laws alone.
+//! What a thread asks for, entries answer; once it is over it stays so; and what it prints are characters. Laws alone.
 #![tactic(auto)]
 
 mod laws;
 
-pub use laws::{main_has_no_need, over_stays_over};
+pub use laws::{main_has_no_need, main_prints_characters, over_stays_over};

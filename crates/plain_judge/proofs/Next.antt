@@ -22,22 +22,22 @@ asked-of_main over e h = absurd h
 pub asked-answers : (before : List Entry) (standing : Standing) (e : Entry) → IsAskedFor Main standing e → main_answers (before ++ e ∷ []) ≡ main_answers before ++ answer_of e ∷ []
 asked-answers before standing e h = main_answers-behind before [] e (asked-of_main standing e h)
 
-module _ (where_fits : MadeWhereFits) (spec : SpecTree) (tree : ExprTree) (units : ℕ) (before : List Entry) (e : Entry) where
-  legal-asked : (standing : Standing) → standing ≡ main_code spec tree units (main_answers before) → IsLegalForThread spec tree units Main (thread_part Main before) e → IsAskedFor Main standing e
+module _ (where_fits : MadeWhereFits) (names : List (List ℕ)) (spec : SpecTree) (tree : ExprTree) (units : ℕ) (before : List Entry) (e : Entry) where
+  legal-asked : (standing : Standing) → standing ≡ main_code names spec tree units (main_answers before) → IsLegalForThread names spec tree units Main (thread_part Main before) e → IsAskedFor Main standing e
   legal-asked standing stands h =
       let back = made-back h.question h.answer e h.made_of in
       subst (λ s. IsAskedFor Main s e) (sym (stands ∙ h.asked)) (subst (λ a. made Main h.question a ≡ Some e) (sym back.2) h.made_of)
 
-  asked-legal : (standing : Standing) → standing ≡ main_code spec tree units (main_answers before) → IsAskedFor Main standing e → IsLegalForThread spec tree units e.thread (thread_part e.thread before) e
+  asked-legal : (standing : Standing) → standing ≡ main_code names spec tree units (main_answers before) → IsAskedFor Main standing e → IsLegalForThread names spec tree units e.thread (thread_part e.thread before) e
   asked-legal (asks q) stands h =
       let there : IsSome (made Main q (answer_of e)) = subst IsSome (sym h) refl in
-      subst (λ t. IsLegalForThread spec tree units t (thread_part t before) e) (sym (made-back q (answer_of e) e h).0)
+      subst (λ t. IsLegalForThread names spec tree units t (thread_part t before) e) (sym (made-back q (answer_of e) e h).0)
       (record { question = q; answer = answer_of e; asked = sym stands; fits = (where_fits Main q (answer_of e)).0 there; made_of = h })
   asked-legal over stands h = absurd h
 
   -- what may stand next is what is legal
-  pub next-legal : (standing : Standing) → standing ≡ main_code spec tree units (main_answers before) → IsNext spec Main before standing e ↔ IsLegal spec tree units before e
+  pub next-legal : (standing : Standing) → standing ≡ main_code names spec tree units (main_answers before) → IsNext spec Main before standing e ↔ IsLegal names spec tree units before e
   next-legal standing stands = (
     (λ next. record { at_object = next.0; for_thread = asked-legal standing stands next.1 }),
-    (λ legal. (legal.at_object, legal-asked standing stands (legal-for_main spec tree units before e legal))),
+    (λ legal. (legal.at_object, legal-asked standing stands (legal-for_main names spec tree units before e legal))),
   )

@@ -16,8 +16,8 @@ module _ (f g : List Answer → Standing) where
   stays-behind a same h taken more is = same (taken ++ more) ∙ h (a ∷ taken) more (sym (same taken) ∙ is)
 
 -- main's machine at its beginning
-pub first-stays : (spec : SpecTree) (tree : ExprTree) (units : ℕ) (standing : List Answer → Standing) → ((answers : List Answer) → standing answers ≡ main_code spec tree units answers) → StaysOver standing
-first-stays spec tree units standing stands = stays-same standing (main_code spec tree units) stands (main-stays spec tree units)
+pub first-stays : (names : List (List ℕ)) (spec : SpecTree) (tree : ExprTree) (units : ℕ) (standing : List Answer → Standing) → ((answers : List Answer) → standing answers ≡ main_code names spec tree units answers) → StaysOver standing
+first-stays names spec tree units standing stands = stays-same standing (main_code names spec tree units) stands (main-stays names spec tree units)
 
 -- one that is over leaves the answers that it is given
 pub over-leaves : (standing : List Answer → Standing) → StaysOver standing → standing [] ≡ over → (a : Answer) (answers : List Answer) → standing answers ≡ standing (a ∷ answers)

@@ -20,32 +20,44 @@ use spec_table::ClassTable;
 use std::alloc::Global;
 use stmt_exec::Machine;
 use vdm_kinds::OutOfMemory;
+use vdm_names::Names;
 
-/// Whether the entries are a run of the table's specification and the expression, whose threads have this many units each.
+/// Whether the entries are a run of the table's specification and the expression, whose threads have this many units each. The names are
+/// those of the texts.
 pub fn is_run(
     alloc: Global,
+    names: &Names,
     table: &ClassTable,
     tree: &Expr,
     units: u64,
     entries: &EntryList,
 ) -> Result<bool, OutOfMemory>
-    ensures { IfOk result (λ b. IsTrue b ↔ IsRun (table_spec table.now) (view_of tree.now) units entries.now) }
+    ensures { IfOk result (λ b. IsTrue b ↔ IsRun names.now (table_spec table.now) (view_of tree.now) units entries.now) }
 {
-    let mut machine = Machine::main(alloc, table, tree, units)?;
-    are_legal(alloc, table, tree, units, &mut machine, entries.as_slice())
+    let mut machine = Machine::main(alloc, names, table, tree, units)?;
+    are_legal(
+        alloc,
+        names,
+        table,
+        tree,
+        units,
+        &mut machine,
+        entries.as_slice(),
+    )
 }
 
 /// Whether each entry is legal behind those before it; the machine is main's, at its beginning.
 fn are_legal(
     alloc: Global,
+    names: &Names,
     table: &ClassTable,
     tree: &Expr,
     units: u64,
     machine: &mut Machine<'_>,
     entries: &[Entry],
 ) -> Result<bool, OutOfMemory>
-    requires { (answers : List AnswerView) → rest machine.old answers ≡ main_code (table_spec table.now) (view_of tree.now) units answers }
-    ensures { IfOk result (λ b. IsTrue b ↔ IsRun (table_spec table.now) (view_of tree.now) units entries.now) }
+    requires { (answers : List AnswerView) → rest machine.old answers ≡ main_code names.now (table_spec table.now) (view_of tree.now) units answers }
+    ensures { IfOk result (λ b. IsTrue b ↔ IsRun names.now (table_spec table.now) (view_of tree.now) units entries.now) }
 {
     // By this law the answer fits where the entry is made of it.
     made_where_fits();
@@ -99,7 +111,7 @@ fn is_next(
     ensures next { IfOk result (λ b. IsTrue b ↔ IsNext (table_spec table.now) thread before.now (rest machine.old []) entry.now) }
     ensures kept { OnOk result (machine.new ≡ machine.old) }
 {
-    if !is_legal_at_object(table, before, entry) {
+    if !is_legal_at_object(alloc, table, before, entry)? {
         return Ok(false);
     }
     is_asked_for(alloc, thread, machine, entry)

@@ -14,6 +14,7 @@ use spec_table::ClassTable;
 use std::alloc::Global;
 use stmt_exec::Machine;
 use vdm_kinds::OutOfMemory;
+use vdm_names::Names;
 
 /// Where a thread stands.
 #[derive(Drop)]
@@ -24,18 +25,19 @@ pub enum Standing {
     Over,
 }
 
-/// Where main of the table's specification stands after these answers, with this many units. What it is given behind its end
-/// it leaves.
+/// Where main of the table's specification stands after these answers, with this many units and the names of the texts. What it is
+/// given behind its end it leaves.
 pub fn next_question(
     alloc: Global,
+    names: &Names,
     table: &ClassTable,
     tree: &Expr,
     units: u64,
     answers: AnswerList,
 ) -> Result<Standing, OutOfMemory>
-    ensures { IfOk result (λ s. stands s ≡ main_code (table_spec table.now) (view_of tree.now) units answers) }
+    ensures { IfOk result (λ s. stands s ≡ main_code names.now (table_spec table.now) (view_of tree.now) units answers) }
 {
-    let mut machine = Machine::main(alloc, table, tree, units)?;
+    let mut machine = Machine::main(alloc, names, table, tree, units)?;
     standing_after(alloc, &mut machine, answers)
 }
 

@@ -28,24 +28,24 @@ ready-for_main spec before _ h = h
 not_both : (q : Question) → over ≡ asks q → ⊥
 not_both q e = cc
 
-module _ (spec : SpecTree) (tree : ExprTree) (units : ℕ) (before : List Entry) (standing : List Answer → Standing) (h : GoesOn spec tree units before standing) where
-  at_once : standing [] ≡ main_code spec tree units (main_answers before)
-  at_once = h.stands [] ∙ ap (main_code spec tree units) (append-nil (main_answers before))
+module _ (names : List (List ℕ)) (spec : SpecTree) (tree : ExprTree) (units : ℕ) (before : List Entry) (standing : List Answer → Standing) (h : GoesOn names spec tree units before standing) where
+  at_once : standing [] ≡ main_code names spec tree units (main_answers before)
+  at_once = h.stands [] ∙ ap (main_code names spec tree units) (append-nil (main_answers before))
 
   pub question-ready : (question : Question) → standing [] ≡ asks question → IsReadyFor spec Main before question
-  question-ready question asked = ready-for_main spec before question (asked-ready spec tree units before question h.run (sym at_once ∙ asked))
+  question-ready question asked = ready-for_main spec before question (asked-ready names spec tree units before question h.run (sym at_once ∙ asked))
 
   -- main still asks
   pub never-over : standing [] ≡ over → ⊥
   never-over is_over =
-      let more = still_asks spec tree units before h.run h.open_end _ refl in
+      let more = still_asks names spec tree units before h.run h.open_end _ refl in
       not_both more.0 (sym is_over ∙ at_once ∙ more.1)
 
   module _ (after : List Entry) where
-    answered-run : IsAnswered spec Main before after (standing []) → IsRun spec tree units after
+    answered-run : IsAnswered spec Main before after (standing []) → IsRun names spec tree units after
     answered-run a =
         let e = a.entered in
-        subst (IsRun spec tree units) (sym e.is_last) (run_on spec tree units before a.question a.answer e.entry h.run (sym at_once ∙ a.asked) e.fits e.made_of e.is_legal)
+        subst (IsRun names spec tree units) (sym e.is_last) (run_on names spec tree units before a.question a.answer e.entry h.run (sym at_once ∙ a.asked) e.fits e.made_of e.is_legal)
 
     answered-order : IsAnswered spec Main before after (standing []) → IsInOrder spec after
     answered-order a = let e = a.entered in subst (IsInOrder spec) (sym e.is_last) (order-on spec before e.entry h.order e.is_numbered)
@@ -54,37 +54,37 @@ module _ (spec : SpecTree) (tree : ExprTree) (units : ℕ) (before : List Entry)
     answered-answers a = let e = a.entered in ap main_answers e.is_last ∙ answers-more before a.question a.answer e.entry e.made_of
 
     -- where a turn was cut short it is a run all the same
-    pub cut-run : (after ≡ before) ⊎ IsAnswered spec Main before after (standing []) → IsRun spec tree units after
-    cut-run c = elim c [ inl same ↦ subst (IsRun spec tree units) (sym same) h.run | inr a ↦ answered-run a ]
+    pub cut-run : (after ≡ before) ⊎ IsAnswered spec Main before after (standing []) → IsRun names spec tree units after
+    cut-run c = elim c [ inl same ↦ subst (IsRun names spec tree units) (sym same) h.run | inr a ↦ answered-run a ]
 
     pub cut-order : (after ≡ before) ⊎ IsAnswered spec Main before after (standing []) → IsInOrder spec after
     cut-order c = elim c [ inl same ↦ subst (IsInOrder spec) (sym same) h.order | inr a ↦ answered-order a ]
 
     module _ (now : List Answer → Standing) (t : TakesTurn spec Main before after standing now) where
-      pub turn-run : IsRun spec tree units after
+      pub turn-run : IsRun names spec tree units after
       turn-run = answered-run t.answered
 
       pub turn-order : IsInOrder spec after
       turn-order = answered-order t.answered
 
       -- a turn that does not end the run
-      pub turn-goes_on : finish_of after ≡ None → GoesOn spec tree units after now
+      pub turn-goes_on : finish_of after ≡ None → GoesOn names spec tree units after now
       turn-goes_on none = record {
         run = turn-run;
         order = turn-order;
         open_end = none;
         stands = λ answers.
             t.goes_on answers ∙ h.stands (t.answered.answer ∷ answers)
-            ∙ ap (main_code spec tree units) (sym (ap (λ xs. xs ++ answers) (answered-answers t.answered) ∙ append_assoc (main_answers before) (t.answered.answer ∷ []) answers));
+            ∙ ap (main_code names spec tree units) (sym (ap (λ xs. xs ++ answers) (answered-answers t.answered) ∙ append_assoc (main_answers before) (t.answered.answer ∷ []) answers));
       }
 
 -- ---- before the first entry
 
-pub first-goes_on : (spec : SpecTree) (tree : ExprTree) (units : ℕ) (before : List Entry) → before ≡ [] → (standing : List Answer → Standing) → ((answers : List Answer) → standing answers ≡ main_code spec tree units answers) → GoesOn spec tree units before standing
-first-goes_on spec tree units before none standing stands = record {
-  run = subst (IsRun spec tree units) (sym none) tt;
+pub first-goes_on : (names : List (List ℕ)) (spec : SpecTree) (tree : ExprTree) (units : ℕ) (before : List Entry) → before ≡ [] → (standing : List Answer → Standing) → ((answers : List Answer) → standing answers ≡ main_code names spec tree units answers) → GoesOn names spec tree units before standing
+first-goes_on names spec tree units before none standing stands = record {
+  run = subst (IsRun names spec tree units) (sym none) tt;
   order = subst (IsInOrder spec) (sym none) tt;
   open_end = ap finish_of none;
   stands = λ answers.
-      stands answers ∙ ap (λ xs. main_code spec tree units (main_answers xs ++ answers)) (sym none);
+      stands answers ∙ ap (λ xs. main_code names spec tree units (main_answers xs ++ answers)) (sym none);
 }

@@ -28,8 +28,8 @@ pub record TakesTurn (spec : SpecTree) (thread : Thread) (before after : List En
   pub goes_on : (answers : List Answer) → now answers ≡ old (answered.answer ∷ answers)
 
 -- A run in the order of one lane that is not at its end, and main stands where its answers lead it.
-pub record GoesOn (spec : SpecTree) (tree : ExprTree) (units : ℕ) (entries : List Entry) (standing : List Answer → Standing) : Type 0 where
-  pub run : IsRun spec tree units entries
+pub record GoesOn (names : List (List ℕ)) (spec : SpecTree) (tree : ExprTree) (units : ℕ) (entries : List Entry) (standing : List Answer → Standing) : Type 0 where
+  pub run : IsRun names spec tree units entries
   pub order : IsInOrder spec entries
   pub open_end : finish_of entries ≡ None
-  pub stands : (answers : List Answer) → standing answers ≡ main_code spec tree units (map answer_of (thread_part Main entries) ++ answers)
+  pub stands : (answers : List Answer) → standing answers ≡ main_code names spec tree units (map answer_of (thread_part Main entries) ++ answers)

@@ -20,6 +20,7 @@ use spec_table::ClassTable;
 use std::alloc::Global;
 use stmt_exec::Machine;
 use vdm_kinds::OutOfMemory;
+use vdm_names::Names;
 
 /// The journal of a run, and how it ended: `None` where memory was wanting.
 #[derive(Drop)]
@@ -28,14 +29,15 @@ pub struct Ran {
     pub finish: Option<Finish>,
 }
 
-/// Runs the expression over the table's specification, with so many units for main, to the end or until memory is wanting.
-pub fn run(alloc: Global, table: &ClassTable, tree: &Expr, steps: u64) -> Ran
-    ensures run { IsRun (table_spec table.now) (view_of tree.now) steps result.journal }
+/// Runs the expression over the table's specification, with so many units for main, to the end or until memory is wanting. The names are
+/// those of both texts.
+pub fn run(alloc: Global, names: &Names, table: &ClassTable, tree: &Expr, steps: u64) -> Ran
+    ensures run { IsRun names.now (table_spec table.now) (view_of tree.now) steps result.journal }
     ensures order { IsInOrder (table_spec table.now) result.journal }
     ensures finish { IfSome result.finish (λ f. finish_of result.journal ≡ Some (finishes f)) }
 {
     let mut store = Store::new(alloc);
-    let finish = run_to_end(alloc, table, tree, steps, &mut store);
+    let finish = run_to_end(alloc, names, table, tree, steps, &mut store);
     Ran {
         finish: finish.ok(),
         journal: store.into_journal(),
@@ -45,31 +47,33 @@ pub fn run(alloc: Global, table: &ClassTable, tree: &Expr, steps: u64) -> Ran
 /// Runs to the end. Where memory is wanting the entries so far are kept.
 fn run_to_end(
     alloc: Global,
+    names: &Names,
     table: &ClassTable,
     tree: &Expr,
     steps: u64,
     store: &mut Store,
 ) -> Result<Finish, OutOfMemory>
     requires empty { journal store.old ≡ [] }
-    ensures run { IsRun (table_spec table.now) (view_of tree.now) steps (journal store.new) }
+    ensures run { IsRun names.now (table_spec table.now) (view_of tree.now) steps (journal store.new) }
     ensures order { IsInOrder (table_spec table.now) (journal store.new) }
     ensures finish { IfOk result (λ f. finish_of (journal store.new) ≡ Some (finishes f)) }
 {
-    let mut machine = Machine::main(alloc, table, tree, steps)?;
-    take_turns(alloc, table, tree, steps, &mut machine, store)
+    let mut machine = Machine::main(alloc, names, table, tree, steps)?;
+    take_turns(alloc, names, table, tree, steps, &mut machine, store)
 }
 
 /// Answers the questions of main's machine until an entry decides the run.
 fn take_turns(
     alloc: Global,
+    names: &Names,
     table: &ClassTable,
     tree: &Expr,
     steps: u64,
     machine: &mut Machine<'_>,
     store: &mut Store,
 ) -> Result<Finish, OutOfMemory>
-    requires { GoesOn (table_spec table.now) (view_of tree.now) steps (journal store.old) (rest machine.old) }
-    ensures run { IsRun (table_spec table.now) (view_of tree.now) steps (journal store.new) }
+    requires { GoesOn names.now (table_spec table.now) (view_of tree.now) steps (journal store.old) (rest machine.old) }
+    ensures run { IsRun names.now (table_spec table.now) (view_of tree.now) steps (journal store.new) }
     ensures order { IsInOrder (table_spec table.now) (journal store.new) }
     ensures finish { IfOk result (λ f. finish_of (journal store.new) ≡ Some (finishes f)) }
 {

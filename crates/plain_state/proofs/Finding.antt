@@ -1,12 +1,11 @@
 -- Where the first entry on an object stands and the last that wrote a variable, behind one entry more.
-use Rattle.std.proofs.Common.{◌≡◌, ◌⊎◌, inl, inr, ℕ, zero, suc, ◌+◌, ◌≤◌, ◌<◌, Bool, true, false, List, [], ◌∷◌, ◌++◌, take, drop, length, get_or, slice_get, Option, Some, None, Result, Ok, Err, IfOk, if◌then◌else◌, refl, sym, ap, subst, ◌∙◌, arith, append-nil, ne_eqb, eqb-true, length-append, take-append-drop}
+use Rattle.std.proofs.Common.{◌≡◌, ◌⊎◌, inl, inr, ℕ, zero, suc, ◌+◌, ◌≤◌, ◌<◌, Bool, true, false, List, [], ◌∷◌, ◌++◌, take, drop, length, get_or, slice_get, Option, Some, None, if◌then◌else◌, refl, sym, ap, subst, ◌∙◌, arith, append-nil, ne_eqb, eqb-true, length-append, take-append-drop}
 use Rattle.std.specs.Option.{is_some}
 use Rattle.std.proofs.lemmas.Option.{none-some, same_Some, slice_get_read}
 use Rattle.std.proofs.lemmas.List.{take_all, drop_all, take-append-le, drop-append-le}
 use Rattle.std.proofs.lemmas.List.Elements.{filter-append}
 use Rattle.vdm_kinds.specs.declared.member.VarRef.{VarRef}
 use Rattle.abstract_syntax.specs.Classes.{SpecTree}
-use Rattle.vdm_values.specs.declared.slot.Slot.{Slot}
 use Rattle.run_journal.specs.declared.entry.Entry.{Entry}
 use Rattle.run_journal.specs.Parts.{is_on, object_part}
 use Rattle.vdm_legal.specs.Order.{above_all}
@@ -54,11 +53,6 @@ module _ (entries : List Entry) (object : ℕ) where
       ap (λ xs. slot_or (first_slot spec var (object_part object xs)) (last_written var (object_part object written))) made_is
       ∙ ap (λ xs. slot_or (first_slot spec var (object_part object (drop first entries))) (last_written var (object_part object xs))) written_is
       ∙ state-found spec var first last is_first is_last
-
--- what a copy holds
-pub copy-found : {E : Type 0} (r : Result Slot E) (held meant : Slot) → held ≡ meant → IfOk r (λ slot. slot ≡ held) → IfOk r (λ slot. slot ≡ meant)
-copy-found (Ok slot) held meant is h = h ∙ is
-copy-found (Err e) held meant is h = tt
 
 -- ---- a number that is noted
 

@@ -4,7 +4,7 @@ use Rattle.abstract_syntax.specs.Classes.{SpecTree}
 use Rattle.run_journal.specs.declared.answer.Answer.{Answer}
 use Rattle.run_journal.specs.declared.entry.Entry.{Entry}
 use Rattle.run_journal.specs.declared.question.Question.{Question}
-use Rattle.run_journal.specs.declared.question.Question.TheVariants.{New, Read}
+use Rattle.run_journal.specs.declared.question.Question.TheVariants.{New, Read, Write, Time}
 use Rattle.run_journal.specs.declared.thread.Thread.{Thread}
 use Rattle.run_journal.specs.Made.{made, Fits}
 use Rattle.run_journal.specs.Parts.{object_part}
@@ -31,4 +31,6 @@ pub record IsEntered (spec : SpecTree) (thread : Thread) (before : List Entry) (
 abbrev pub HasNothingToTell : Question → Type 0
 HasNothingToTell (New class slots) = ⊥
 HasNothingToTell (Read object var) = ⊥
+HasNothingToTell (Write object writes) = ⊥
+HasNothingToTell Time = ⊥
 HasNothingToTell _ = Unit {0}

@@ -1,8 +1,8 @@
-// How often an operation was asked for, began and ended on an object, and whether the object is there.
+// How often an operation was asked for, began and ended on an object, how often the clock was moved on, and whether the object is there.
 
 ghost use Rattle.std.specs.Prelude.{◌≡◌, ◌<◌, ◌↔◌, [], length, IsTrue};
 ghost use Rattle.run_journal.specs.Parts.{object_part};
-ghost use Rattle.vdm_legal.specs.State.{activations, count_of, finishes, is_activation, is_finish, is_request, requests};
+ghost use Rattle.vdm_legal.specs.State.{activations, count_of, finishes, is_activation, is_finish, is_request, is_tick, requests, ticks};
 ghost use Rattle.plain_state.specs.Phases.{tells};
 
 use run_journal::{Deed, Entry};
@@ -101,4 +101,24 @@ fn is_finish(name: Name, deed: &Deed) -> bool
         Deed::Fin { op } => name.0 == op.name.0,
         _ => false,
     }
+}
+
+/// How often the clock was moved on, by the entries on the object.
+pub(crate) fn ticks_on(entries: &[Entry], object: u32) -> u64
+    ensures { result ≡ ticks (object_part object entries.now) }
+{
+    let mut count = 0;
+    for entry in entries {
+        if entry.object == object && is_tick(&entry.deed) {
+            count += 1;
+        }
+    }
+    count
+}
+
+/// Whether the deed moves the clock on.
+fn is_tick(deed: &Deed) -> bool
+    ensures { result ≡ is_tick deed.now }
+{
+    matches!(deed, Deed::Tick)
 }

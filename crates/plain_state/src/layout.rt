@@ -45,7 +45,7 @@ fn slot_made<'a>(table: &ClassTable, deed: &'a Deed, var: VarRef) -> Option<&'a 
 }
 
 /// The variables of an object of the class; none of a class that is not there.
-fn object_variables(table: &ClassTable, class: Name) -> &[VarRef]
+pub(crate) fn object_variables(table: &ClassTable, class: Name) -> &[VarRef]
     ensures { result.now ≡ object_variables (table_spec table.now) class }
 {
     table.layout(class)

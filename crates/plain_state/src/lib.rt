@@ -6,6 +6,7 @@
 mod calls;
 mod classes;
 mod finish;
+mod keeping;
 mod layout;
 mod legal;
 mod order;

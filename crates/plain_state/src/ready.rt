@@ -25,6 +25,8 @@ pub fn is_ready(table: &ClassTable, before: &[Entry], thread: Thread, question: 
         Question::Act { object, op } => may_begin(before, *object, op.name),
         Question::Fin { object, op } => may_end(before, *object, op.name),
         Question::Read { object, .. } => is_there(before, *object),
+        Question::Print { .. } => is_there(before, 0),
+        Question::Time => is_there(before, 0),
         Question::End { .. } => is_there(before, thread.own_object()),
         Question::Fail { .. } => is_there(before, thread.own_object()),
         _ => false,

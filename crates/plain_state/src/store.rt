@@ -4,11 +4,16 @@ ghost use Rattle.std.specs.Prelude.{◌≡◌};
 ghost use Rattle.vdm_legal.specs.Order.{above_all};
 ghost use Rattle.plain_state.specs.Found.{FindsFirsts, FindsWrites};
 
+use crate::calls::ticks_on;
 use crate::classes::count_of;
+use crate::keeping::{guarded_class, slot_with, write_answer};
+use crate::layout::object_variables;
 use crate::places::{Place, behind, note_deed, place_of, up_to};
-use crate::state::{held_by, slot_of};
+use crate::state::{Holding, held_by, slot_of};
+use eval_data::Held;
 use journal_entries::entry_made;
-use run_journal::{Answer, Deed, Entry, EntryList, Question, Thread};
+use kept_invariants::keeps;
+use run_journal::{Answer, Deed, Entry, EntryList, Question, Thread, Write, WriteList};
 use spec_table::ClassTable;
 use std::alloc::Global;
 use std::collections::HashMap;
@@ -68,6 +73,8 @@ impl Store {
         match question {
             Question::New { class, values } => self.make(table, thread, class, values),
             Question::Read { object, var } => self.read(alloc, table, thread, object, var),
+            Question::Write { object, writes } => self.write(alloc, table, thread, object, writes),
+            Question::Time => self.tell(table, thread),
             question => self.note(table, thread, question),
         }
     }
@@ -133,6 +140,38 @@ impl Store {
         Ok(answer)
     }
 
+    /// Writes variables of an object together, or refuses where an invariant of the object would not hold behind that.
+    fn write(
+        &mut self,
+        alloc: Global,
+        table: &ClassTable,
+        thread: Thread,
+        object: u32,
+        writes: WriteList,
+    ) -> Result<Answer, OutOfMemory>
+        requires ready { IsReady (table_spec table.now) (journal self.old) (Question.Write object writes) }
+        ensures entered { IfOk result (λ answer.
+            IsEntered (table_spec table.now) thread (journal self.old) (Question.Write object writes) answer (journal self.new)) }
+        ensures err { OnErr result (journal self.new ≡ journal self.old) }
+    {
+        let kept = self.keeps(alloc, table, object, writes.as_slice())?;
+        let refused = !kept;
+        self.enter(Entry::new(thread, object, Deed::Write { writes, refused }))?;
+        Ok(write_answer(kept))
+    }
+
+    /// Tells the time: how often the clock was moved on.
+    fn tell(&mut self, table: &ClassTable, thread: Thread) -> Result<Answer, OutOfMemory>
+        requires ready { IsReady (table_spec table.now) (journal self.old) Question.Time }
+        ensures entered { IfOk result (λ answer.
+            IsEntered (table_spec table.now) thread (journal self.old) Question.Time answer (journal self.new)) }
+        ensures err { OnErr result (journal self.new ≡ journal self.old) }
+    {
+        let ticks = ticks_on(self.entries.as_slice(), 0);
+        self.enter(Entry::new(thread, 0, Deed::Time { ticks }))?;
+        Ok(Answer::Ticks(ticks))
+    }
+
     /// Enters what the thread did where there is nothing to tell.
     fn note(
         &mut self,
@@ -181,12 +220,60 @@ impl Store {
 }
 
 impl Store {
-    ghost use Rattle.std.specs.Prelude.{◌≡◌, ℕ, [], ◌∷◌, ◌++◌, length, take, drop, IfOk, OnErr, OnOk};
+    ghost use Rattle.std.specs.Prelude.{◌≡◌, ℕ, [], ◌∷◌, ◌++◌, length, map, take, drop, IfOk, OnErr, OnOk};
+    ghost use Rattle.vdm_kinds.specs.declared.member.VarRef.{VarRef as Variable};
     ghost use Rattle.run_journal.specs.Parts.{object_part};
-    ghost use Rattle.vdm_legal.specs.State.{state_of};
+    ghost use Rattle.vdm_legal.specs.State.{keeps_with, state_of, state_with};
     ghost use Rattle.spec_table.specs.Tables.{table_spec};
     ghost use Rattle.plain_state.specs.Entered.{journal};
     ghost use Rattle.plain_state.specs.Found.{AreNoted, IsFirst, IsLast};
+    ghost use Rattle.plain_state.specs.Guarded.{guarded_class};
+    ghost use Rattle.plain_state.specs.Holdings.{held_slot};
+
+    /// Whether the invariants of the object hold once these are written.
+    fn keeps(
+        &self,
+        alloc: Global,
+        table: &ClassTable,
+        object: u32,
+        writes: &[Write],
+    ) -> Result<bool, OutOfMemory>
+        ensures { IfOk result (λ kept. kept ≡ keeps_with (table_spec table.now) (object_part object (journal self.now)) writes.now) }
+    {
+        let Some(class) = self.guarded_class(table, object) else {
+            return Ok(true);
+        };
+        let variables = object_variables(table, class);
+        let held = self.held_with(alloc, table, object, writes, variables)?;
+        keeps(alloc, table, class, held)
+    }
+
+    /// The class of the object, where it has invariants to keep.
+    fn guarded_class(&self, table: &ClassTable, object: u32) -> Option<Name>
+        ensures { result ≡ guarded_class (table_spec table.now) (object_part object (journal self.now)) }
+    {
+        let made = behind(self.entries.as_slice(), self.first(object));
+        guarded_class(table, made, object)
+    }
+
+    /// What the variables of the object hold once these are written.
+    fn held_with(
+        &self,
+        alloc: Global,
+        table: &ClassTable,
+        object: u32,
+        writes: &[Write],
+        variables: &[VarRef],
+    ) -> Result<Held, OutOfMemory>
+        ensures { IfOk result (λ held. held.variables.items ≡ map (λ (var : Variable). (var, state_with (table_spec table.now) (object_part object (journal self.now)) writes.now var)) variables.now) }
+    {
+        let mut held = Vec::with_capacity(alloc, variables.len())?;
+        for var in variables {
+            let before = self.holding(table, object, *var);
+            held.push((*var, slot_with(alloc, before, *var, writes)?))?;
+        }
+        Ok(Held { variables: held })
+    }
 
     /// A copy of what the variable of the object holds.
     fn held(
@@ -198,10 +285,17 @@ impl Store {
     ) -> Result<Slot, OutOfMemory>
         ensures { IfOk result (λ held. held ≡ state_of (table_spec table.now) (object_part object (journal self.now)) var) }
     {
+        slot_of(alloc, self.holding(table, object, var))
+    }
+
+    /// What the variable of the object holds, where it stands.
+    fn holding(&self, table: &ClassTable, object: u32, var: VarRef) -> Holding<'_>
+        ensures { held_slot result ≡ state_of (table_spec table.now) (object_part object (journal self.now)) var }
+    {
         let entries = self.entries.as_slice();
         let made = behind(entries, self.first(object));
         let written = up_to(entries, self.last_write(object, var));
-        slot_of(alloc, held_by(table, made, written, object, var))
+        held_by(table, made, written, object, var)
     }
 
     /// So many entries that none of them stands on the object: all before its first, where its number is known.

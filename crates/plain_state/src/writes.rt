@@ -38,7 +38,7 @@ fn written_by(deed: &Deed, var: VarRef) -> Option<&Value>
 }
 
 /// The value in the last pair of the variable.
-fn written_in(pairs: &[Write], var: VarRef) -> Option<&Value>
+pub(crate) fn written_in(pairs: &[Write], var: VarRef) -> Option<&Value>
     ensures { option_copied result ≡ written_in var pairs.now }
 {
     let mut before = pairs;

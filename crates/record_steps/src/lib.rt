@@ -1,4 +1,4 @@
-//! What records do: how they are made and changed, and what a member of a value has.
+//! What records do: how they are made and changed, and what a field of one has.
 #![tactic(auto)]
 
 mod changing;
@@ -7,7 +7,6 @@ mod made;
 mod making;
 mod nodes;
 mod placing;
-mod selecting;
 mod types;
 
 pub use changing::record_changed;
@@ -16,5 +15,4 @@ pub use made::field_fits;
 pub use making::record_made;
 pub use nodes::{make_record, modify_record};
 pub use placing::with_field;
-pub use selecting::selected;
 pub use types::fields_of;

@@ -196,7 +196,9 @@ fn next_field<'t>(alloc: Global, filling: &mut Filling<'t>) -> Result<Next<'t>, 
 fn record_value<'t>(filling: Filling<'t>, place: Place) -> Result<Step<'t>, OutOfMemory>
     ensures { IfOk result (λ s. (setting : Setting) (locals : Locals) → code_of setting locals s ≡ record_value filling.entry.class filling.entry.name place filling.entry.values.items locals) }
 {
-    let record = record_of(filling.class, filling.name, filling.values);
+    let class = filling.class;
+    let name = filling.name;
+    let record = record_of(class, name, filling.into_values());
     outcome_step(sized(record), place)
 }
 

@@ -29,12 +29,12 @@ pub fn make_record<'t>(
     locals: &mut Vec<(Name, Slot)>,
     here: Here<'t>,
     type_name: TypeName,
-    arguments: &'t [Expr],
+    arguments: &'t Vec<Expr>,
     place: Place,
 ) -> Result<Step<'t>, OutOfMemory>
-    ensures { IfOk result (λ s. (asker : Asker) → code_of (under (table_spec table.entry.now) asker) locals.new.items s ≡ collected (here_of here.entry) place (expr_trees (views_of arguments.entry.now)) [] (record_made (table_spec table.entry.now) (here_of here.entry).nest (here_of here.entry).scope type_name place) locals.old.items) }
+    ensures { IfOk result (λ s. (asker : Asker) → code_of (under (table_spec table.entry.now) asker) locals.new.items s ≡ collected (here_of here.entry) place (expr_trees (views_of arguments.entry.now.items)) [] (record_made (table_spec table.entry.now) (here_of here.entry).nest (here_of here.entry).scope type_name place) locals.old.items) }
 {
-    match next_part(Parts::Items(arguments)) {
+    match next_part(Parts::Items(arguments, 0)) {
         None => {
             let values = Vec::new(alloc);
             record_made(
@@ -78,7 +78,7 @@ fn first_part<'t>(
     rest: Parts<'t>,
     then: Then<'t>,
 ) -> Result<Step<'t>, OutOfMemory>
-    ensures { IfOk result (λ s. (setting : Setting) (locals : Locals) → code_of setting locals s ≡ evaluated (here_of here.entry) locals (view_of tree.entry.now) place (with_others (here_of here.entry) place (parts_of rest.entry) [] (then_of setting.spec then.entry (here_of here.entry) place))) }
+    ensures { IfOk result (λ s. (setting : Setting) (locals : Locals) → code_of setting locals s ≡ evaluated (here_of here.entry) locals (view_of tree.entry.now) place (with_others (here_of here.entry) place (parts_of rest.entry) [] (then_of setting then.entry (here_of here.entry) place))) }
 {
     let frame = Frame::collecting(alloc, here, place, rest, Vec::new(alloc), then)?;
     Ok(Step::Part(here, tree, frame))

@@ -5,4 +5,5 @@ pub mod Values
 pub mod Lines
 pub mod Log
 pub mod Output
+pub mod Printing
 pub mod Worked

@@ -11,6 +11,7 @@ use row_words::Line;
 use run_journal::{EntryList, Thread};
 use spec_table::ClassTable;
 use vdm_kinds::{OutOfMemory, Place, RunFault};
+use vdm_names::Names;
 use vdm_values::Slot;
 
 pub(crate) fn answer(desk: &mut TreeDesk, line: &mut Line<'_>, word: &str) {
@@ -27,34 +28,43 @@ fn answer_by(desk: &TreeDesk, line: &mut Line<'_>, word: &str, table: &ClassTabl
         line.refuse();
         return;
     };
+    let names = &desk.plain.names;
     if word == "judge" {
-        say_judged(line, table, tree, units, &desk.plain.entries);
+        say_judged(line, names, table, tree, units, &desk.plain.entries);
     } else {
-        let ran = run(line.alloc(), table, tree, units);
-        say_run(line, table, tree, units, &ran);
+        let ran = run(line.alloc(), names, table, tree, units);
+        say_run(line, names, table, tree, units, &ran);
     }
 }
 
 fn say_judged(
     line: &mut Line<'_>,
+    names: &Names,
     table: &ClassTable,
     tree: &Expr,
     units: u64,
     entries: &EntryList,
 ) {
-    match is_run(line.alloc(), table, tree, units, entries) {
+    match is_run(line.alloc(), names, table, tree, units, entries) {
         Ok(is_run) => line.say(if is_run { "run" } else { "no run" }),
         Err(OutOfMemory) => line.fall_short(),
     }
 }
 
-fn say_run(line: &mut Line<'_>, table: &ClassTable, tree: &Expr, units: u64, ran: &Ran) {
+fn say_run(
+    line: &mut Line<'_>,
+    names: &Names,
+    table: &ClassTable,
+    tree: &Expr,
+    units: u64,
+    ran: &Ran,
+) {
     line.say(if ran.finish.is_some() {
         "whole "
     } else {
         "cut short "
     });
-    say_judged(line, table, tree, units, &ran.journal);
+    say_judged(line, names, table, tree, units, &ran.journal);
     line.say(" ");
     say_order(line, table, &ran.journal);
     line.say(", ");

@@ -5,6 +5,7 @@
 use expr_tree::Expr;
 use journal_entries::entry_made;
 use plain_judge::{Standing, next_question};
+use plain_run::handed::stmt_exec::Machine;
 use row_desk::say_made;
 use row_trees::TreeDesk;
 use row_words::Line;
@@ -12,8 +13,8 @@ use run_journal::{Answer, AnswerList, HostAnswer, Question, Thread};
 use spec_table::ClassTable;
 use std::alloc::Global;
 use std::mem;
-use stmt_exec::Machine;
 use vdm_kinds::OutOfMemory;
+use vdm_names::Names;
 
 pub(crate) fn answer(desk: &mut TreeDesk, line: &mut Line<'_>, word: &str) {
     let units = line.whole();
@@ -22,7 +23,10 @@ pub(crate) fn answer(desk: &mut TreeDesk, line: &mut Line<'_>, word: &str) {
     let answers = mem::replace(&mut desk.plain.answers, Vec::new(line.alloc()));
     if let Some(table) = desk.take_table(line) {
         match desk.tree() {
-            Some(tree) => answer_by(line, word, &table, tree, units, answers, last),
+            Some(tree) => {
+                let names = &desk.plain.names;
+                answer_by(line, word, names, &table, tree, units, answers, last)
+            }
             None => line.refuse(),
         }
     }
@@ -41,6 +45,7 @@ fn last_answer(desk: &mut TreeDesk, line: &mut Line<'_>, word: &str) -> Answer {
 fn answer_by(
     line: &mut Line<'_>,
     word: &str,
+    names: &Names,
     table: &ClassTable,
     tree: &Expr,
     units: u64,
@@ -48,21 +53,22 @@ fn answer_by(
     last: Answer,
 ) {
     if word == "asks" {
-        asks(line, table, tree, units, answers, last);
+        asks(line, names, table, tree, units, answers, last);
     } else {
-        started(line, word, table, tree, units, &answers);
+        started(line, word, names, table, tree, units, &answers);
     }
 }
 
 fn started(
     line: &mut Line<'_>,
     word: &str,
+    names: &Names,
     table: &ClassTable,
     tree: &Expr,
     units: u64,
     answers: &[Answer],
 ) {
-    match Machine::main(line.alloc(), table, tree, units) {
+    match Machine::main(line.alloc(), names, table, tree, units) {
         Ok(mut machine) => step(line, word, &mut machine, answers),
         Err(OutOfMemory) => line.fall_short(),
     }
@@ -163,6 +169,7 @@ fn answer_to(question: &Question) -> Answer {
 
 fn asks(
     line: &mut Line<'_>,
+    names: &Names,
     table: &ClassTable,
     tree: &Expr,
     units: u64,
@@ -170,7 +177,7 @@ fn asks(
     last: Answer,
 ) {
     let before = AnswerList::from_vec(answers);
-    match next_question(line.alloc(), table, tree, units, before) {
+    match next_question(line.alloc(), names, table, tree, units, before) {
         Ok(Standing::Asks(question)) => say_made(line, entry_made(Thread::Main, question, last)),
         Ok(Standing::Over) => line.say("over"),
         Err(OutOfMemory) => line.fall_short(),

@@ -1,6 +1,6 @@
 // One line after another, and which library answers it.
 
-use row_trees::TreeDesk;
+use row_runs::handed::row_trees::TreeDesk;
 use row_words::Line;
 use std::alloc::Global;
 use std::io::{self, BufRead, BufReader, BufWriter, ErrorKind, Write};

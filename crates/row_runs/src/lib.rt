@@ -3,6 +3,11 @@
 //! A request is a word and the words behind it; the head of each module says which words it answers.
 #![tactic(auto)]
 
+/// A crate below that is handed on.
+pub mod handed {
+    pub use row_trees;
+}
+
 mod stores;
 mod trees;
 

@@ -34,7 +34,7 @@ pub(crate) fn collecting_part<'t>(
     done: Vec<Value>,
     then: Then<'t>,
 ) -> Result<Step<'t>, OutOfMemory>
-    ensures { IfOk result (λ s. (setting : Setting) (locals : Locals) → code_of setting locals s ≡ collected (here_of here.entry) place (one_expr (boxed_view first.now) (parts_of rest.entry)) done.items (then_of setting.spec then.entry (here_of here.entry) place) locals) }
+    ensures { IfOk result (λ s. (setting : Setting) (locals : Locals) → code_of setting locals s ≡ collected (here_of here.entry) place (one_expr (boxed_view first.now) (parts_of rest.entry)) done.items (then_of setting then.entry (here_of here.entry) place) locals) }
 {
     let collecting = Collecting {
         here,

@@ -1,14 +1,14 @@
 -- What is waiting, what is asked, and what is done next: the plan of each.
-use Rattle.std.specs.Prelude.{ℕ, ℤ, ◌+◌, [], ◌∷◌, length, drop, option_map}
+use Rattle.std.specs.Prelude.{ℕ, ℤ, ◌+◌, ◌-◌, List, [], ◌∷◌, ◌++◌, length, drop, option_map}
 use Rattle.std.specs.Borrow.{Bor}
 use Rattle.abstract_syntax.specs.Classes.{SpecTree}
-use Rattle.abstract_syntax.specs.Expressions.{ExprTree}
 use Rattle.expr_tree.specs.View.{view_of, boxed_view, pattern_view}
 use Rattle.expr_tree.specs.declared.expr.Expr.{Expr as ExprOf}
 use Rattle.vdm_tree.specs.StmtView.{boxed_stmt, maybe_stmt}
 use Rattle.run_journal.specs.declared.answer.Answer.{Answer}
 use Rattle.run_journal.specs.declared.question.Question.{Question}
 use Rattle.run_journal.specs.declared.question.Question.TheVariants as question
+use Rattle.report_texts.specs.Printing.{printed_text}
 use Rattle.plans.specs.Plans.{finish, fail, ask, part, become, bind}
 use Rattle.stmt_meaning.specs.Blocks.{alternatives}
 use Rattle.stmt_meaning.specs.Flows.{unless_ended, unless_ended_at, stmt_within, sequence, called, return_value, exit_value}
@@ -16,26 +16,24 @@ use Rattle.stmt_meaning.specs.Handlers.{at_last, unless_replaced, trapped, caugh
 use Rattle.stmt_meaning.specs.Loops.{while_round, while_decided, counted, on_number, counts_by, counts_to, counts_on, each_of_set, each_of_sequence}
 use Rattle.stmt_meaning.specs.Statements.{branch_taken, branches_of, started, all_started}
 use Rattle.stmt_meaning.specs.Targets.{goal_typed, stored, written, write_of}
-use Rattle.stmt_meaning.specs.Calls.{requested, activated, ended, finished_with}
-use Rattle.node_meaning.specs.Envs.{Here as MeantHere, Locals, at}
-use Rattle.node_meaning.specs.Fitting.{slots_typed}
+use Rattle.stmt_meaning.specs.Calls.{back, begun, begins, body_left, pre_decided, post_decided, value_given}
+use Rattle.node_meaning.specs.Envs.{Here as MeantHere, Locals, at, old_name}
 use Rattle.node_meaning.specs.Matching.{on_truth}
-use Rattle.node_meaning.specs.Needs.{asked}
-use Rattle.stmt_meaning.specs.Questions.{of_thread, answered_slot}
-use Rattle.stmt_meaning.specs.Objects.{created, initial_value, initialise, object_asked}
-use Rattle.node_meaning.specs.Tasks.{Flow as MeantFlow, round_in, Round as MeantRound, while_true, counts, handles, Code, noted, fault, with_value, cut_to}
-use Rattle.vdm_meaning.specs.Main.{uncaught, ended as main_ended, whole_expression, make_class_objects}
+use Rattle.node_meaning.specs.Needs.{asked, slot_in}
+use Rattle.stmt_meaning.specs.Questions.{of_thread, answered_slot, printed, time_answered}
+use Rattle.stmt_meaning.specs.Objects.{created}
+use Rattle.node_meaning.specs.Tasks.{Flow as MeantFlow, round_in, Round as MeantRound, while_true, counts, handles, Code, Query, noted, printing, fault, with_value, cut_to}
+use Rattle.vdm_meaning.specs.Main.{uncaught, ended as main_ended, came}
 use Rattle.eval_data.specs.Parts.{here_of, flow_of, need_of}
 use Rattle.eval_data.specs.Steps.{after_need, frame_then}
 use Rattle.eval_data.specs.declared.flow.Flow.TheVariants.{Gave}
 use Rattle.eval_data.specs.declared.frame.Frame.{Frame}
 use Rattle.eval_data.specs.declared.here.Here.{Here}
 use Rattle.step_data.specs.declared.action.Action.{Action}
-use Rattle.step_data.specs.declared.action.Action.TheVariants.{Finish as Done, Fail, Uncaught, Ask, Part, Become, Round as OfRound, Block, Test, Fit, Need}
+use Rattle.step_data.specs.declared.action.Action.TheVariants.{Finish as Done, Fail, Uncaught, Ask, Part, Become, Round as OfRound, Block, Test, Fit, Begin, Need}
 use Rattle.step_data.specs.declared.asking.Asking.{Asking}
-use Rattle.step_data.specs.declared.asking.Asking.TheVariants.{Class, Request, Activation, Finish, Read, Write, WriteTogether, Old, New, End as Ending}
+use Rattle.step_data.specs.declared.asking.Asking.TheVariants.{Class, Request, Activation, Before, Finish, Read, Write, WriteTogether, Old, New, Print, Time, End as Ending}
 use Rattle.step_data.specs.declared.level.Level.{Level}
-use Rattle.step_data.specs.declared.making.Making.{Making}
 use Rattle.step_data.specs.declared.round.ForLoop.{ForLoop}
 use Rattle.step_data.specs.declared.waiting.Waiting.{Waiting}
 use Rattle.step_data.specs.declared.waiting.Waiting.TheVariants.{
@@ -52,9 +50,16 @@ use Rattle.step_data.specs.declared.waiting.Waiting.TheVariants.{
   Join,
   GoalFits,
   Return,
+  Argument,
+  Back,
+  Parameters,
+  Pre,
   Body,
-  Initial,
   Leave,
+  Post,
+  Initial,
+  Static,
+  StaticFits,
   Slots,
   Exit,
   Branches,
@@ -81,23 +86,10 @@ use Rattle.step_data.specs.declared.waiting.Waiting.TheVariants.{
 use Rattle.step_data.specs.Declarations.{surrounded, rest_of_block, local_came, local_fits}
 use Rattle.step_data.specs.Goals.{goal_view, kept_with, index_then, join_then, old_answered}
 use Rattle.step_data.specs.Meetings.{cases_left, given_then, element_then, defined_meets, defined_tested}
-use Rattle.step_data.specs.Parts.{expression_in, task_of, round_of, call_operation, statements_of, branches_left}
+use Rattle.step_data.specs.Callings.{calling_of, olds_of, arguments_left, read_from, binding_then, making_of, initial_of, slots_left, class_behind, static_given, statics_tested}
+use Rattle.step_data.specs.Parts.{expression_in, task_of, round_of, statements_of, branches_left}
 
 -- ---- what is waiting
-
--- the initialisers that are left, behind the slots
-abbrev pub initialisers : SpecTree → Making → Code
-initialisers spec m = initialise spec m.class m.place m.saved.items m.variables.now m.left.now m.slots.items
-
--- one of them gives a slot, and then those behind it
-abbrev pub initial_of : SpecTree → Making → MeantFlow → Code
-initial_of spec m =
-    initial_value m.place m.saved.items (initialise spec m.class m.place m.saved.items m.variables.now m.left.now) m.slots.items
-
--- the slots behind the first so many are tested, and then the object is asked for
-abbrev pub slots_left : SpecTree → Making → ℕ → Locals → Code
-slots_left spec m tested =
-    slots_typed spec m.place (drop tested m.variables.now) (drop tested m.slots.items) (object_asked m.class m.place m.slots.items)
 
 -- what is done behind the node with which a round of a loop began
 abbrev pub round_done : SpecTree → MeantHere → MeantRound → MeantFlow → Code
@@ -130,10 +122,17 @@ waiting_then spec (Index assigning) = index_then spec assigning.value
 waiting_then spec (Join assigning) = join_then spec assigning.value
 waiting_then spec (GoalFits assigning) = with_value assigning.value.place (kept_with spec assigning.value)
 waiting_then spec (Return place) = with_value place return_value
-waiting_then spec (Body call saved) = ended spec call.me call.op (call_operation call).result_type call.place saved.items
+waiting_then spec (Argument requesting tested place) = with_value place (λ v. arguments_left spec requesting.value tested)
+waiting_then spec (Back saved) = back saved.items
+waiting_then spec (Parameters binding) = binding_then spec binding.value
+waiting_then spec (Pre call) = with_value call.value.place (on_truth call.value.place (pre_decided spec (calling_of call.value)))
+waiting_then spec (Body call count) = body_left spec (calling_of call.value) count
+waiting_then spec (Leave call) = with_value call.value.place (value_given (calling_of call.value))
+waiting_then spec (Post call slot) = with_value call.value.place (on_truth call.value.place (post_decided (calling_of call.value) slot))
 waiting_then spec (Initial making) = initial_of spec making.value
-waiting_then spec (Leave me op place) = with_value place (finished_with me op)
-waiting_then spec (Slots making tested) = with_value making.value.place (λ v. slots_left spec making.value tested)
+waiting_then spec (Static making place) = came place (static_given spec making.value)
+waiting_then spec (StaticFits making tested place) = came place (λ v. statics_tested spec making.value tested)
+waiting_then spec (Slots making tested) = with_value making.value.object.value.place (λ v. slots_left spec making.value tested)
 waiting_then spec (Exit place) = with_value place (exit_value place)
 waiting_then spec (Branches here statement more otherwise place) =
     with_value place
@@ -171,33 +170,53 @@ level_then spec level flow = surrounded level.around (waiting_then spec level.wa
 
 -- ---- what is asked
 
--- the expression, and behind it main's end
-abbrev pub main_expression : ExprTree → Code
-main_expression tree = part (whole_expression tree) main_ended
+-- as a query of the meaning
+abbrev pub query_of : Asking → Query
+query_of (Class making) = noted (question.Class making.value.object making.value.class making.value.slots.items)
+query_of (Request call) = noted (question.Req call.value.me call.value.op)
+query_of (Activation call) = noted (question.Act call.value.me call.value.op)
+query_of (Before call old next) = noted (question.Read old.object old.var)
+query_of (Finish me op flow) = noted (question.Fin me op)
+query_of (Read me var) = noted (question.Read me var)
+query_of (Write me var v place) = noted (question.Write me (write_of var v ∷ []))
+query_of (WriteTogether me pairs place) = noted (question.Write me pairs.items)
+query_of (Old assigning me var) = noted (question.Read me var)
+query_of (New creating slots) = noted (question.New creating.value.class slots)
+query_of (Print vs) = printing vs
+query_of (Time place) = noted question.Time
+query_of (Ending slot) = noted (question.End slot)
 
-abbrev pub question_of : Asking → Question
-question_of (Class object others class tree) = question.Class object class []
-question_of (Request call) = question.Req call.me call.op
-question_of (Activation call) = question.Act call.me call.op
-question_of (Finish me op flow) = question.Fin me op
-question_of (Read me var) = question.Read me var
-question_of (Write me var v place) = question.Write me (write_of var v ∷ [])
-question_of (WriteTogether me pairs place) = question.Write me pairs.items
-question_of (Old assigning me var) = question.Read me var
-question_of (New class slots place) = question.New class slots
-question_of (Ending slot) = question.End slot
+-- ... and as a question, over the names of the texts
+abbrev pub question_of : List (List ℕ) → Asking → Question
+question_of names (Class making) = question.Class making.value.object making.value.class making.value.slots.items
+question_of names (Request call) = question.Req call.value.me call.value.op
+question_of names (Activation call) = question.Act call.value.me call.value.op
+question_of names (Before call old next) = question.Read old.object old.var
+question_of names (Finish me op flow) = question.Fin me op
+question_of names (Read me var) = question.Read me var
+question_of names (Write me var v place) = question.Write me (write_of var v ∷ [])
+question_of names (WriteTogether me pairs place) = question.Write me pairs.items
+question_of names (Old assigning me var) = question.Read me var
+question_of names (New creating slots) = question.New creating.value.class slots
+question_of names (Print vs) = question.Print (printed_text names vs)
+question_of names (Time place) = question.Time
+question_of names (Ending slot) = question.End slot
 
 -- what is done with the answer
 abbrev pub answered_of : SpecTree → Locals → Asking → Answer → Code
-answered_of spec locals (Class object others class tree) answer = make_class_objects (object + 1) others.now (main_expression (view_of tree.now))
-answered_of spec locals (Request call) answer = requested spec call.me call.own call.op (call_operation call) call.place locals answer
-answered_of spec locals (Activation call) answer = activated spec call.me call.own call.op (call_operation call) call.place locals answer
+answered_of spec locals (Class making) answer = class_behind spec making.value
+answered_of spec locals (Request call) answer =
+    ask (noted (question.Act call.value.me call.value.op)) (begins spec (calling_of call.value) (olds_of call.value) locals)
+answered_of spec locals (Activation call) answer = begins spec (calling_of call.value) (olds_of call.value) locals answer
+answered_of spec locals (Before call old next) answer = read_from spec call.value next (locals ++ (old_name old.name, slot_in answer) ∷ [])
 answered_of spec locals (Finish me op flow) answer = finish (flow_of flow locals)
 answered_of spec locals (Read me var) answer = answered_slot locals answer
 answered_of spec locals (Write me var v place) answer = written place locals answer
 answered_of spec locals (WriteTogether me pairs place) answer = written place locals answer
 answered_of spec locals (Old assigning me var) answer = old_answered spec assigning.value locals answer
-answered_of spec locals (New class slots place) answer = created class place locals answer
+answered_of spec locals (New creating slots) answer = created spec (making_of creating.value) locals answer
+answered_of spec locals (Print vs) answer = printed locals answer
+answered_of spec locals (Time place) answer = time_answered place locals answer
 answered_of spec locals (Ending slot) answer = finish (flow_of (Gave slot) locals)
 
 -- ---- what is done next
@@ -210,28 +229,37 @@ abbrev pub action_code : SpecTree → Locals → Action → Code
 action_code spec locals (Done flow) = finish (flow_of flow locals)
 action_code spec locals (Fail kind place) = fault kind place
 action_code spec locals (Uncaught v place) = fail (uncaught v place)
-action_code spec locals (Ask asking) = ask (noted (question_of asking)) (answered_of spec locals asking)
+action_code spec locals (Ask asking) = ask (query_of asking) (answered_of spec locals asking)
 action_code spec locals (Part task pending) = part (task_of task locals) (waiting_then spec pending.waiting)
 action_code spec locals (Become task) = become (task_of task locals)
 action_code spec locals (OfRound here round) = become (round_in (at (here_of here) locals) [] (round_of round))
 action_code spec locals (Block rest) = rest_of_block rest locals
 action_code spec locals (Test test) = nested spec locals test.value.here test.value.tree test.value.inner (Expr test.value.outer)
 action_code spec locals (Fit fit) = nested spec locals fit.value.here fit.value.tree fit.value.inner fit.value.outer.waiting
+action_code spec locals (Begin call) = begun spec (calling_of call.value) (olds_of call.value) locals
 action_code spec locals (Need need place after) = asked (of_thread spec) (need_of need) place locals (after_need after place)
 
 -- ---- what falls
 
+-- More than the greatest number of 32 bits: no `post` names more variables with `~`, and there are no more class objects.
+unfoldable pub most : ℕ
+most = 4294967296
+
 -- what an asking weighs: more than the action behind its answer
 abbrev pub weight : Asking → ℕ
-weight (Class object others class tree) = 2 + length others.now
-weight (Request call) = 3
+weight (Class making) = 2 + (most - making.value.object)
+weight (Request call) = 6 + length call.value.olds.items
+weight (Activation call) = 5 + length call.value.olds.items
+weight (Before call old next) = 2 + length (drop next call.value.olds.items)
+weight (New creating slots) = 7 + most
 weight (Old assigning me var) = 3
 weight _ = 2
 
 -- what an action weighs, before the next question
 abbrev pub height : Action → ℕ
 height (Ask asking) = weight asking
-height (Need need place after) = 5
+height (Begin call) = 4 + length call.value.olds.items
+height (Need need place after) = 9 + most
 height (Block rest) = 2
 height _ = 1
 
@@ -243,11 +271,13 @@ busy (Become task) = 1
 busy (OfRound here round) = 1
 busy (Test test) = 1
 busy (Fit fit) = 1
+busy (Begin call) = 4
 busy (Need need place after) = 4
 busy (Block rest) = 2
 busy _ = 0
 
--- what waits behind a need weighs little, since it is done at once
+-- what waits behind a need or a call weighs little, since it is done at once
 abbrev pub waiting_weight : Waiting → ℕ
 waiting_weight (After after place) = 2
-waiting_weight _ = 6
+waiting_weight (Back saved) = 2
+waiting_weight _ = 10 + most

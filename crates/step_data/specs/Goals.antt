@@ -19,7 +19,7 @@ use Rattle.node_meaning.specs.Matching.{exprs_of}
 use Rattle.node_meaning.specs.Needs.{slot_in}
 use Rattle.node_meaning.specs.Strict.{with_others}
 use Rattle.node_meaning.specs.Tasks.{Flow as MeantFlow, gave, Code, fault, with_value}
-use Rattle.stmt_meaning.specs.Targets.{Goal as MeantGoal, to_local, to_variable, indices, changed_by, goal_typed, changed_typed, goal_changed, stored, write_of, together}
+use Rattle.stmt_meaning.specs.Targets.{Goal as MeantGoal, to_local, to_variable, indices, changed_by, goal_typed, changed_typed, goal_changed, stored, write_of, object_of_first, together}
 use Rattle.eval_data.specs.Parts.{here_of}
 use Rattle.step_data.specs.declared.assigning.Assigning.{Assigning}
 use Rattle.step_data.specs.declared.assigning.Kept.{Kept}
@@ -34,9 +34,9 @@ goal_view (Variable me var t) = to_variable me var (type_view t.now)
 -- what is done with the value that a goal gets
 abbrev pub kept_then : SpecTree → MeantHere → Place → MeantGoal → Kept → ValueTree → Locals → Code
 kept_then spec here place goal Stored v locals = stored place goal v locals
-kept_then spec here place (to_variable me var t) (Joined pairs left) v locals =
-    together spec here place (map assignment_view left.now) (Some me) (pairs.items ++ write_of var v ∷ []) locals
-kept_then spec here place (to_local name t) (Joined pairs left) v locals = fault Undefined place
+kept_then spec here place (to_variable me var t) (Joined object pairs left) v locals =
+    together spec here place (map assignment_view left.now) (object_of_first object me) (pairs.items ++ write_of var v ∷ []) locals
+kept_then spec here place (to_local name t) (Joined object pairs left) v locals = fault Undefined place
 
 abbrev pub steps_of : Assigning → List TargetStepTree
 steps_of a = map target_step_view a.steps.now

@@ -1,4 +1,5 @@
 pub mod Actions
+pub mod Callings
 pub mod Declarations
 pub mod Goals
 pub mod Meetings

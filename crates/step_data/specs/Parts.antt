@@ -1,12 +1,10 @@
 -- What the machine keeps of a thread, in the words of the meaning.
 use Rattle.std.specs.Prelude.{Bool, true, false, List, [], map}
 use Rattle.std.specs.Borrow.{Bor}
-use Rattle.abstract_syntax.specs.Classes.{OperationTree}
 use Rattle.abstract_syntax.specs.Statements.{StmtTrees, StmtBranches, HandlerTrees}
 use Rattle.expr_tree.specs.View.{view_of, boxed_view}
 use Rattle.expr_tree.specs.declared.expr.Expr.{Expr as ExprOf}
 use Rattle.vdm_tree.specs.StmtView.{stmt_view, stmt_trees, stmt_views, boxed_stmt, stmt_branch_view, stmt_branch_trees, handler_view, handler_trees}
-use Rattle.vdm_tree.specs.ClassView.{operation_view}
 use Rattle.vdm_tree.specs.declared.stmt.Handler.{Handler}
 use Rattle.vdm_tree.specs.declared.stmt.Stmt.{Stmt}
 use Rattle.vdm_tree.specs.declared.stmt.StmtBranch.{StmtBranch}
@@ -14,7 +12,6 @@ use Rattle.node_meaning.specs.Envs.{Here as MeantHere, Locals, at}
 use Rattle.node_meaning.specs.Tasks.{Task as MeantTask, expr_in, call_in, stmt_in, Counting as MeantCounting, Round as MeantRound, while_true, counts, handles}
 use Rattle.eval_data.specs.Parts.{here_of}
 use Rattle.eval_data.specs.declared.here.Here.{Here}
-use Rattle.step_data.specs.declared.call.Call.{Call}
 use Rattle.step_data.specs.declared.round.Counting.{Counting}
 use Rattle.step_data.specs.declared.round.Round.{Round}
 use Rattle.step_data.specs.declared.round.Round.TheVariants.{While, Counts, Handles}
@@ -50,9 +47,6 @@ abbrev pub first_task : MeantHere → Locals → MeantRound → MeantTask
 first_task here locals (while_true condition body place) = expr_in (at here locals) condition
 first_task here locals (counts counting) = stmt_in (at here locals) [] counting.body
 first_task here locals (handles all count body place) = stmt_in (at here locals) [] body
-
-abbrev pub call_operation : Call → OperationTree
-call_operation call = operation_view call.operation.now
 
 -- the statements of a block that are left
 abbrev pub statements_of : List Stmt → StmtTrees

@@ -1,14 +1,15 @@
 // What a thread does next.
 
-ghost use Rattle.std.specs.Prelude.{◌≡◌, ◌≤◌};
+ghost use Rattle.std.specs.Prelude.{◌≡◌, ◌≤◌, ◌+◌};
 ghost use Rattle.abstract_syntax.specs.Classes.{SpecTree};
 ghost use Rattle.node_meaning.specs.Envs.{Locals};
-ghost use Rattle.eval_data.specs.Steps.{code_of};
-ghost use Rattle.step_data.specs.Actions.{action_code, height};
+ghost use Rattle.eval_data.specs.Steps.{code_of, IsLight};
+ghost use Rattle.step_data.specs.Actions.{action_code, busy, most, height};
 ghost use Rattle.stmt_meaning.specs.Questions.{of_thread};
 
 use crate::asking::Asking;
 use crate::block::BlockRest;
+use crate::calling::Calling;
 use crate::fit_part::FitPart;
 use crate::pending::Pending;
 use crate::round::Round;
@@ -40,15 +41,19 @@ pub enum Action<'t> {
     Test(Box<TestPart<'t>>),
     /// A part of the test of a value elsewhere, with what is done behind it.
     Fit(Box<FitPart<'t>>),
+    /// A call begins, and the locals are put aside until it is left.
+    Begin(Box<Calling<'t>>),
     /// Something is needed for the node at the place; and what is done with what comes of it.
-    Need(Need, Place, After),
+    Need(Need, Place, After<'t>),
 }
 
 impl<'t> Action<'t> {
     /// What a step of an expression is.
     pub fn of(step: Step<'t>) -> Action<'t>
         ensures same { (spec : SpecTree) (locals : Locals) → action_code spec locals result ≡ code_of (of_thread spec) locals step.entry }
-        ensures falls { height result ≤ 5 }
+        ensures falls { height result ≤ 9 + most }
+        ensures low { IsLight step.entry → height result ≤ 1 }
+        ensures idle { IsLight step.entry → busy result ≤ 1 }
     {
         match step {
             Step::Finish(flow) => Action::Finish(flow),

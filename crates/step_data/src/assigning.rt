@@ -12,12 +12,12 @@ use vdm_values::Value;
 pub enum Kept<'t> {
     /// It is written.
     Stored,
-    /// It is written together with these values and those of the assignments that are left.
-    Joined(Vec<Write>, &'t [Assignment]),
+    /// It is written together with these values, on the object of the first of them where there is one, and with those of the
+    /// assignments that are left.
+    Joined(Option<u32>, Vec<Write>, &'t [Assignment]),
 }
 
 /// An assignment by the statement at the place, of which an expression is being evaluated, or whose value is being tested.
-#[derive(Drop)]
 pub struct Assigning<'t> {
     pub here: Here<'t>,
     pub place: Place,
@@ -31,4 +31,20 @@ pub struct Assigning<'t> {
     /// The values that came: the indices, and behind them that of the expression.
     pub done: Vec<Value>,
     pub kept: Kept<'t>,
+}
+
+// By hand, so that whoever drops it calls this, and does not prove again the dropping of all that is in it.
+impl<'t> Drop for Assigning<'t> {
+    fn drop(self) {
+        let Assigning {
+            here: _,
+            place: _,
+            goal: _,
+            steps: _,
+            left: _,
+            value: _,
+            done: _,
+            kept: _,
+        } = self;
+    }
 }

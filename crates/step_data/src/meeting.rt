@@ -1,5 +1,7 @@
 // Patterns of statements that meet values.
 
+ghost use Rattle.std.specs.Prelude.{◌≡◌};
+
 use eval_data::Here;
 use expr_tree::{Defined, Pattern};
 use type_tree::TypeExpr;
@@ -35,7 +37,6 @@ pub struct Meeting<'t> {
 
 /// A pattern before it meets its value: the expressions in brackets in it, of which one is being evaluated, and the values of those
 /// before it.
-#[derive(Drop)]
 pub struct Given<'t> {
     pub meeting: Meeting<'t>,
     pub found: Vec<&'t Box<Expr>>,
@@ -44,8 +45,19 @@ pub struct Given<'t> {
     pub given: Vec<Value>,
 }
 
+// By hand, so that whoever drops it calls this, and does not prove again the dropping of all that is in it.
+impl<'t> Drop for Given<'t> {
+    fn drop(self) {
+        let Given {
+            meeting: _,
+            found: _,
+            next: _,
+            given: _,
+        } = self;
+    }
+}
+
 /// The elements of a loop that are left, the next one last.
-#[derive(Drop)]
 pub struct Elements<'t> {
     pub here: Here<'t>,
     pub place: Place,
@@ -53,6 +65,19 @@ pub struct Elements<'t> {
     pub body: &'t Box<Stmt>,
     pub count: usize,
     pub values: Vec<Value>,
+}
+
+impl<'t> Drop for Elements<'t> {
+    fn drop(self) {
+        let Elements {
+            here: _,
+            place: _,
+            pattern: _,
+            body: _,
+            count: _,
+            values: _,
+        } = self;
+    }
 }
 
 /// A definition of a statement, whose value is being evaluated or tested.
@@ -65,4 +90,36 @@ pub struct Defining<'t> {
     pub more: &'t [Defined],
     pub body: &'t Box<Stmt>,
     pub count: usize,
+}
+
+impl<'t> Given<'t> {
+    /// What meets, and the values that were given.
+    pub fn into_parts(self) -> (Meeting<'t>, Vec<Value>)
+        ensures { result ≡ (self.entry.meeting, self.entry.given) }
+    {
+        let Given {
+            meeting,
+            found: _found,
+            next: _,
+            given,
+        } = self;
+        (meeting, given)
+    }
+}
+
+impl<'t> Elements<'t> {
+    /// The elements that are left.
+    pub fn into_values(self) -> Vec<Value>
+        ensures { result ≡ self.entry.values }
+    {
+        let Elements {
+            here: _,
+            place: _,
+            pattern: _,
+            body: _,
+            count: _,
+            values,
+        } = self;
+        values
+    }
 }

@@ -2,14 +2,15 @@
 
 use crate::assigning::Assigning;
 use crate::block::Declaring;
-use crate::call::Call;
+use crate::calling::{Binding, Calling, Requesting};
+use crate::class_making::ClassMaking;
 use crate::goal::Goal;
 use crate::making::Making;
 use crate::meeting::{Defining, Elements, Given};
 use crate::round::{ForLoop, Round};
 use eval_data::{After, Flow, Frame, Here};
 use expr_tree::Pattern;
-use vdm_kinds::{Name, OpRef, Place};
+use vdm_kinds::{Name, Place};
 use vdm_tree::{Expr, Stmt, StmtBranch, StmtCase};
 use vdm_values::Slot;
 
@@ -19,7 +20,7 @@ pub enum Waiting<'t> {
     /// In an expression.
     Expr(Frame<'t>),
     /// Behind a need of the node at the place.
-    After(After, Place),
+    After(After<'t>, Place),
     /// Behind the call of a call statement.
     Called,
     /// The statements that follow in a block, and how many locals stand before its own.
@@ -42,13 +43,27 @@ pub enum Waiting<'t> {
     GoalFits(Box<Assigning<'t>>),
     /// It is returned, by the statement at the place.
     Return(Place),
-    /// Behind the body of a call, with the caller's locals.
-    Body(Call<'t>, Vec<(Name, Slot)>),
+    /// It fits the type of a parameter, as an argument at the place: so many are tested, the others follow, and then the call is asked for.
+    Argument(Box<Requesting<'t>>, usize, Place),
+    /// Behind a call: the locals of the node that calls come back.
+    Back(Vec<(Name, Slot)>),
+    /// It is the value of an expression in brackets in the pattern of a parameter.
+    Parameters(Box<Binding<'t>>),
+    /// It decides whether the body of a call begins.
+    Pre(Box<Calling<'t>>),
+    /// Behind the body of a call, before which so many locals stood.
+    Body(Box<Calling<'t>>, usize),
+    /// It fits the type of the result of a call.
+    Leave(Box<Calling<'t>>),
+    /// It decides whether a call ends, with this result.
+    Post(Box<Calling<'t>>, Slot),
     /// It is what an initialiser gives.
     Initial(Box<Making<'t>>),
-    /// It fits the type of the result of the operation, called on the object of this number: the call is to end. The place is that of
-    /// the call.
-    Leave(u32, OpRef, Place),
+    /// It is what the initialiser of a static variable gives, which stands at the place.
+    Static(Box<ClassMaking<'t>>, Place),
+    /// It fits the type of its static variable, with its initialiser at the place: so many slots are tested, the others follow, and then
+    /// the class object is made.
+    StaticFits(Box<ClassMaking<'t>>, usize, Place),
     /// It fits the type of its variable: so many slots are tested, the others follow, and then the object is made.
     Slots(Box<Making<'t>>, usize),
     /// It is the value with which the statement at the place exits.

@@ -8,7 +8,7 @@ use Rattle.stmt_exec.specs.declared.rest.Rest.TheVariants.{Spent}
 use Rattle.stmt_exec.specs.Resting.{rest_at, rest_weight}
 
 abbrev pub rest : Machine → List Answer → Standing
-rest m answers = rest_at m.stack m.rest answers
+rest m answers = rest_at m.names.now m.stack m.rest answers
 
 -- a machine that met want of memory
 abbrev pub IsSpent : Machine → Type 0

@@ -17,11 +17,14 @@ use std::alloc::Global;
 use std::mem;
 use thread_stack::Stack;
 use vdm_kinds::{OutOfMemory, Place, RunFault};
+use vdm_names::Names;
 use vdm_tree::Expr;
 use vdm_values::{Slot, Value};
 
 /// A thread that stands where its code stands after the answers that it was given.
 pub struct Machine<'t> {
+    // Those of the texts that run: what is printed is written with them.
+    names: &'t Names,
     stack: Stack<'t>,
     rest: Rest<'t>,
 }
@@ -29,24 +32,31 @@ pub struct Machine<'t> {
 // A derived drop would be proved again in each crate that drops a machine.
 impl<'t> Drop for Machine<'t> {
     fn drop(self) {
-        let Machine { stack: _, rest: _ } = self;
+        let Machine {
+            names: _,
+            stack: _,
+            rest: _,
+        } = self;
     }
 }
 
 impl<'t> Machine<'t> {
-    /// The machine of main, which makes the class objects, evaluates the expression and ends, with this many units.
+    /// The machine of main, which makes the class objects, evaluates the expression and ends, with this many units, over the names of
+    /// the texts.
     pub fn main(
         alloc: Global,
+        names: &'t Names,
         table: &'t ClassTable,
         tree: &'t Expr,
         steps: u64,
     ) -> Result<Machine<'t>, OutOfMemory>
-        ensures { IfOk result (λ m. (answers : List AnswerView) → rest m answers ≡ main_code (table_spec table.now) (view_of tree.now) steps answers) }
+        ensures { IfOk result (λ m. (answers : List AnswerView) → rest m answers ≡ main_code names.now (table_spec table.now) (view_of tree.now) steps answers) }
     {
         let mut stack = Stack::new(alloc, table, steps);
-        let action = make_class_objects(0, table.classes(), tree);
+        let classes = table.classes();
+        let action = make_class_objects(alloc, table, &mut stack.locals, 0, classes, tree)?;
         let rest = run(alloc, &mut stack, action)?;
-        Ok(Machine { stack, rest })
+        Ok(Machine { names, stack, rest })
     }
 
     /// The question that the thread needs answered, the same until it is. Where memory is refused the machine is spent.
@@ -101,7 +111,7 @@ impl<'t> Machine<'t> {
         ensures spent { IsSpent self.now → IsErr result }
     {
         match &self.rest {
-            Rest::Asks(asking) => question_of(alloc, asking),
+            Rest::Asks(asking) => question_of(alloc, self.names, asking),
             Rest::Fails(fault, place) => Ok(failure(*fault, Slot::Unset, *place)),
             Rest::Exits(value, place) => exit(alloc, value, *place),
             Rest::Over | Rest::Spent => Err(OutOfMemory),

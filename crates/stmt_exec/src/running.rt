@@ -1,8 +1,9 @@
 // A thread acts until it is at rest.
 
-ghost use Rattle.std.specs.Prelude.{◌≡◌, ◌≤◌, List, IfOk};
+ghost use Rattle.std.specs.Prelude.{◌≡◌, ◌≤◌, ℕ, List, IfOk};
 ghost use Rattle.run_journal.specs.declared.answer.Answer.{Answer as AnswerView};
 ghost use Rattle.step_data.specs.Actions.{height};
+ghost use Rattle.vdm_meaning.specs.Main.{standing_of};
 ghost use Rattle.thread_stack.specs.Standing.{load, stands_with};
 ghost use Rattle.stmt_exec.specs.Resting.{rest_at, rest_weight};
 
@@ -19,7 +20,7 @@ pub(crate) fn run<'t>(
     stack: &mut Stack<'t>,
     action: Action<'t>,
 ) -> Result<Rest<'t>, OutOfMemory>
-    ensures same { IfOk result (λ r. (answers : List AnswerView) → rest_at stack.new r answers ≡ stands_with stack.old action.entry answers) }
+    ensures same { IfOk result (λ r. (names : List (List ℕ)) (answers : List AnswerView) → rest_at names stack.new r answers ≡ standing_of names (stands_with stack.old action.entry answers)) }
     ensures low { IfOk result (λ r. load stack.new.levels.items stack.new.fuel (rest_weight r) ≤ load stack.old.levels.items stack.old.fuel (height action.entry)) }
     ensures table { stack.new.table ≡ stack.old.table }
 {
@@ -36,6 +37,7 @@ pub(crate) fn run<'t>(
             Action::Block(rest) => stack.block(alloc, rest)?,
             Action::Test(test) => stack.test(alloc, test)?,
             Action::Fit(fit) => stack.fit(alloc, fit)?,
+            Action::Begin(call) => stack.call(alloc, call)?,
             Action::Need(need, place, after) => stack.need(alloc, need, place, after)?,
             Action::Fail(fault, place) => {
                 return Ok(Rest::Fails(fault, stack.around.nest.place(place)));

@@ -8,6 +8,13 @@ use Rattle.plans.specs.Plans.{finish, part}
 use Rattle.node_meaning.specs.Envs.{Locals, Here, at}
 use Rattle.node_meaning.specs.Tasks.{stmt_in, Flow, gave, next, returned, exited, Code, cut_to}
 
+-- the same, with these locals after it
+abbrev pub with_locals : Locals → Flow → Flow
+with_locals locals (gave slot before) = gave slot locals
+with_locals locals (next before) = next locals
+with_locals locals (returned slot before) = returned slot locals
+with_locals locals (exited v from before) = exited v from locals
+
 -- what follows a statement: the others, unless it ended the body
 abbrev pub unless_ended : (Locals → Code) → Flow → Code
 unless_ended others (gave slot locals) = finish (gave slot locals)

@@ -9,7 +9,7 @@ use Rattle.plans.specs.Plans.{finish, part, become}
 use Rattle.node_meaning.specs.Envs.{Locals, Here, at}
 use Rattle.node_meaning.specs.Matching.{meets}
 use Rattle.node_meaning.specs.Tasks.{stmt_in, round_in, handles, Flow, gave, next, returned, exited, Code}
-use Rattle.stmt_meaning.specs.Flows.{stmt_within}
+use Rattle.stmt_meaning.specs.Flows.{stmt_within, with_locals}
 
 -- ---- `always`
 
@@ -18,13 +18,6 @@ locals_of (gave slot locals) = locals
 locals_of (next locals) = locals
 locals_of (returned slot locals) = locals
 locals_of (exited v from locals) = locals
-
--- the same, with these locals after it
-abbrev pub with_locals : Locals → Flow → Flow
-with_locals locals (gave slot before) = gave slot locals
-with_locals locals (next before) = next locals
-with_locals locals (returned slot before) = returned slot locals
-with_locals locals (exited v from before) = exited v from locals
 
 -- what comes of the last statement replaces what came before it, where it is an exit or a return
 abbrev pub unless_replaced : Flow → Flow → Code

@@ -1,9 +1,12 @@
 pub mod Blocks
+pub mod Calling
 pub mod Calls
 pub mod Flows
 pub mod Handlers
 pub mod Loops
+pub mod Keeping
 pub mod Objects
+pub mod Olds
 pub mod Questions
 pub mod Statements
 pub mod Targets

@@ -23,7 +23,7 @@ use Rattle.plans.specs.Plans.{finish, ask}
 use Rattle.node_meaning.specs.Envs.{Locals, no_nest, Here, local_named}
 use Rattle.node_meaning.specs.Fitting.{typed}
 use Rattle.node_meaning.specs.Matching.{exprs_of}
-use Rattle.node_meaning.specs.Names.{variable_in, variable_definition}
+use Rattle.node_meaning.specs.Names.{variable_in, variable_definition, variable_here}
 use Rattle.node_meaning.specs.Needs.{slot_in}
 use Rattle.node_meaning.specs.Records.{field_value, fields_of, with_field}
 use Rattle.node_meaning.specs.Strict.{collected}
@@ -45,21 +45,26 @@ abbrev pub defined_goal : ℕ → VarRef → Option VariableTree → Option Goal
 defined_goal me var None = None
 defined_goal me var (Some definition) = Some (to_variable me var definition.declared)
 
--- a variable, where there is an object and a variable of the name
-abbrev pub variable_goal : SpecTree → Option ℕ → Option VarRef → Option Goal
-variable_goal spec (Some me) (Some var) = defined_goal me var (variable_definition spec var)
-variable_goal spec _ _ = None
+-- a variable on the object on which it stands, if there is one
+abbrev pub variable_goal : SpecTree → Option ℕ → VarRef → Option Goal
+variable_goal spec None var = None
+variable_goal spec (Some object) var = defined_goal object var (variable_definition spec var)
 
--- a local variable hides those of the object
+-- ... where there is a variable of the name
+abbrev pub found_goal : SpecTree → Here → Option VarRef → Option Goal
+found_goal spec here None = None
+found_goal spec here (Some var) = variable_goal spec (variable_here spec here var) var
+
+-- a local variable hides those of the class
 abbrev pub named_goal : Option TypeTree → Name → Option Goal → Option Goal
 named_goal (Some t) name other = Some (to_local name t)
 named_goal None name other = other
 
 abbrev pub goal_of : SpecTree → Here → Declared → TargetTree → Option Goal
 goal_of spec here declared (variable name steps place) =
-    named_goal (declared_type declared name) name (variable_goal spec here.me (variable_in spec here.scope name))
+    named_goal (declared_type declared name) name (found_goal spec here (variable_in spec here.scope name))
 goal_of spec here declared (variable_of_class class name name_place steps place) =
-    variable_goal spec here.me (variable_in spec (Some class) name)
+    found_goal spec here (variable_in spec (Some class) name)
 
 abbrev pub target_steps : TargetTree → List TargetStepTree
 target_steps (variable name steps place) = steps
@@ -168,6 +173,11 @@ assigned spec here place (Some goal) steps tree locals = goal_given spec here pl
 
 -- ---- several at once
 
+-- the object of the first variable is that of all
+abbrev pub object_of_first : Option ℕ → ℕ → Option ℕ
+object_of_first None object = Some object
+object_of_first (Some first) object = Some first
+
 -- all variables of one object in one write
 abbrev pub written_together : Place → Option ℕ → List Pair → Locals → Code
 written_together place None pairs locals = fault Undefined place
@@ -185,4 +195,4 @@ abbrev pub together : SpecTree → Here → Place → List AssignmentTree → Op
 together spec here place [] object pairs locals = written_together place object pairs locals
 together spec here place (a ∷ assignments) object pairs locals =
     joined_goal spec here place (goal_of spec here [] a.target) (target_steps a.target) a.value
-    (λ me pair. together spec here place assignments (Some me) (pairs ++ pair ∷ [])) locals
+    (λ me pair. together spec here place assignments (object_of_first object me) (pairs ++ pair ∷ [])) locals

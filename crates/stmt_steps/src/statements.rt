@@ -135,7 +135,7 @@ fn assignment<'t>(
     ensures same { IfOk result (λ a. (locals : Locals) → action_code (table_spec table.now) locals a ≡ assigned (table_spec table.now) (here_of here.entry) place (goal_of (table_spec table.now) (here_of here.entry) (declared_of declared.now) (target_view target.now)) (target_steps_of (target_view target.now)) (boxed_view value.now) locals) }
     ensures falls { IfOk result (λ a. height a ≤ 1) }
 {
-    let goal = goal_of(table, here, declared, target);
+    let goal = goal_of(table, here, declared, target)?;
     assign(alloc, here, goal, target_steps(target), value, place)
 }
 

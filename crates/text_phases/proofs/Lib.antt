@@ -1,3 +1,3 @@
+pub mod Accepted
 pub mod Decided
-pub mod Classes
 pub mod Steps

@@ -2,6 +2,7 @@
 use Rattle.std.specs.Prelude.{ℕ, ◌+◌, pos, true, false, List, [], ◌∷◌, Option, Some, None}
 use Rattle.vdm_kinds.specs.declared.access.Level.TheVariants.{Private, Public}
 use Rattle.vdm_kinds.specs.declared.basic_type.BasicType.TheVariants.{Nat}
+use Rattle.vdm_kinds.specs.declared.counter.Counter.TheVariants.{Finishes}
 use Rattle.vdm_kinds.specs.declared.name.Name.{Name}
 use Rattle.vdm_kinds.specs.declared.name_at.TypeName.{TypeName}
 use Rattle.vdm_kinds.specs.declared.part.Part.TheVariants.{Spec}
@@ -9,7 +10,7 @@ use Rattle.vdm_kinds.specs.declared.place.Place.{Place}
 use Rattle.vdm_kinds.specs.declared.sign.Sign.{Sign}
 use Rattle.abstract_syntax.specs.Literals.{whole_literal, boolean_literal}
 use Rattle.abstract_syntax.specs.Types.{TypeTree, basic_type}
-use Rattle.abstract_syntax.specs.Expressions.{ExprTree, ExprTrees, PatternTree, BindTrees, literal, named, self_object, current_time, joined, create, apply, select, no_exprs, one_expr, bind_in, no_binds, one_bind, equal_to, record_pattern, no_patterns, one_pattern}
+use Rattle.abstract_syntax.specs.Expressions.{ExprTree, ExprTrees, PatternTree, BindTrees, literal, named, history, joined, create, apply, select, no_exprs, one_expr, bind_in, no_binds, one_bind, equal_to, record_pattern, no_patterns, one_pattern}
 use Rattle.abstract_syntax.specs.Statements.{variable, AssignmentTree, LocalTree, StmtTree, StmtTrees, StmtBranches, MaybeStmt, assign, call, block, returns, if_then, for_numbers, no_stmts, one_stmt, no_stmt_branches, one_stmt_branch}
 use Rattle.abstract_syntax.specs.Classes.{TypeDefTree, same_as, ValueDefTree, VariableTree, variable_item, written, FunctionTree, OperationTree, BlockTree, variables, operations, ClassTree, SpecTree}
 
@@ -63,10 +64,14 @@ call_of_new arguments = applied (selected (new_of no_exprs 1) op 8) arguments 11
 abbrev pub type_at : ℕ → TypeName
 type_at column = record { class = None; name = op; name_place = at column }
 
--- `mk_R((self))` as a pattern, from this column on: what is not built stands six columns behind it
+-- `mk_R((time))` as a pattern, from this column on: what is not built stands six columns behind it
+-- an expression that is not built
+abbrev pub a_counter : Place → ExprTree
+a_counter place = history Finishes [] place
+
 abbrev pub record_at : ℕ → PatternTree
 record_at column =
-    record_pattern (type_at column) (one_pattern (equal_to (self_object (at (column + 6))) (at (column + 5))) no_patterns) (at column)
+    record_pattern (type_at column) (one_pattern (equal_to (a_counter (at (column + 6))) (at (column + 5))) no_patterns) (at column)
 
 abbrev pub a_bind : PatternTree → ExprTree → BindTrees
 a_bind pattern set = one_bind (bind_in (one_pattern pattern no_patterns) set) no_binds
@@ -87,9 +92,9 @@ set_to name value column = assign (variable name [] (at column)) value (at colum
 abbrev pub call_to : Name → ℕ → StmtTree
 call_to name column = call (applied (use_of name column) no_exprs (column + 2)) (at column)
 
--- `time()`, a call of which nothing is built, from this column on
-abbrev pub current_call : ℕ → StmtTree
-current_call column = call (applied (current_time (at column)) no_exprs (column + 4)) (at column)
+-- a call of which nothing is built, from this column on
+abbrev pub unbuilt_call : ℕ → StmtTree
+unbuilt_call column = call (applied (a_counter (at column)) no_exprs (column + 4)) (at column)
 
 abbrev pub gives : ExprTree → ℕ → StmtTree
 gives value column = returns (Some value) (at column)
@@ -106,9 +111,9 @@ a_local name initial column = record { name = name; name_place = at column; decl
 abbrev pub chosen : ExprTree → StmtTree → StmtBranches → MaybeStmt → StmtTree
 chosen condition body elseifs otherwise = if_then condition body elseifs otherwise (at 1)
 
--- `elseif self then time()`, with its condition in this column
+-- a branch of which nothing is built, with its condition in this column
 abbrev pub another_branch : ℕ → StmtBranches
-another_branch column = one_stmt_branch (self_object (at column)) (current_call (column + 10)) no_stmt_branches
+another_branch column = one_stmt_branch (a_counter (at column)) (unbuilt_call (column + 10)) no_stmt_branches
 
 -- `for n = first to last by step do body`, from column 1 on
 abbrev pub counted : ExprTree → ExprTree → Option ExprTree → StmtTree → StmtTree
@@ -129,6 +134,11 @@ a_variable name column = record {
   initial = Some (one (column + 11));
   place = at column;
 }
+
+-- `static n : nat := new C()`, from column 30 on: what is not built stands in column 48
+abbrev pub static_new : VariableTree
+static_new =
+    record (a_variable n 37) { access = record { is_static = true; level = Private }; initial = Some (new_of no_exprs 48); place = at 30 }
 
 -- `public op : ..`, from this column on, with a result or without
 abbrev pub an_operation : Name → Option TypeTree → StmtTree → ℕ → OperationTree

@@ -1,13 +1,13 @@
 // Laws of which texts are accepted. Each is the contract of a function that does nothing.
 
-ghost use Rattle.std.specs.Prelude.{◌≡◌, ℕ, ◌⊎◌, false, List, [], flat_map, Some, None};
+ghost use Rattle.std.specs.Prelude.{◌≡◌, ℕ, ◌⊎◌, List, Some, None};
 ghost use Rattle.vdm_kinds.specs.declared.spec_fault.SpecFault.{SpecFault};
 ghost use Rattle.abstract_syntax.specs.Expressions.{ExprTree};
-ghost use Rattle.abstract_syntax.specs.Classes.{SpecTree, class_variables, class_operations};
+ghost use Rattle.abstract_syntax.specs.Classes.{SpecTree};
 ghost use Rattle.class_meaning.specs.Faults.{table_fault};
 ghost use Rattle.spec_checks.specs.Definitions.{spec_fault};
 ghost use Rattle.spec_checks.specs.Threads.{run_fault};
-ghost use Rattle.text_phases.specs.Built.{stands_alone, unbuilt_fault};
+ghost use Rattle.text_phases.specs.Built.{unbuilt_fault, IsBuilt, IsBuiltExpr};
 ghost use Rattle.text_phases.specs.Phases.{IsChecked, IsAccepted, checks_fault, main_checks_fault, spec_refusal, first_refusal};
 
 /// A specification has one tree or one refusal, and never both.
@@ -33,11 +33,12 @@ pub fn one_answer()
     ensures first { (spec text : List ℕ) (fault : SpecFault) → spec_refusal spec ≡ Some fault → first_refusal spec text ≡ Some fault }
 {}
 
-/// A specification that runs has variables and operations only where it has one class, without a superclass, so far.
-pub fn variables_stand_alone()
-    ensures { (spec text : List ℕ) (names : List (List ℕ)) (tree : SpecTree) (expression : ExprTree)
-        → IsAccepted spec text names tree expression → stands_alone tree ≡ false
-        → (flat_map class_variables tree.classes ≡ []) × (flat_map class_operations tree.classes ≡ []) }
+/// What runs is built: the specification, and the expression.
+pub fn what_runs_is_built()
+    ensures specification { (spec text : List ℕ) (names : List (List ℕ)) (tree : SpecTree) (expression : ExprTree)
+        → IsAccepted spec text names tree expression → IsBuilt tree }
+    ensures expression { (spec text : List ℕ) (names : List (List ℕ)) (tree : SpecTree) (expression : ExprTree)
+        → IsAccepted spec text names tree expression → IsBuiltExpr expression }
 {}
 
 /// The table of the classes refuses before the checks, and the checks before what is not built; under `run` the expression's checks

@@ -4,7 +4,7 @@
 mod laws;
 mod worked;
 
-pub use laws::{one_answer, one_specification, phases_follow, variables_stand_alone};
+pub use laws::{one_answer, one_specification, phases_follow, what_runs_is_built};
 pub use worked::{
     built_assignments, built_bindings, built_blocks, built_classes, built_expressions,
     built_functions, built_handlers, built_operations, built_records, built_statements,

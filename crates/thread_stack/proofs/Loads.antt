@@ -3,18 +3,18 @@ use Rattle.std.proofs.Common.{◌≡◌, ◌≤◌, ◌<◌, ℕ, suc, ◌+◌, 
 use Rattle.vdm_kinds.specs.declared.halt.OutOfMemory.{OutOfMemory}
 use Rattle.eval_data.specs.declared.flow.Flow.{Flow}
 use Rattle.step_data.specs.declared.action.Action.{Action}
-use Rattle.step_data.specs.declared.action.Action.TheVariants.{Finish as Done, Fail, Uncaught, Ask, Part, Become, Round as OfRound, Block, Test, Fit, Need}
+use Rattle.step_data.specs.declared.action.Action.TheVariants.{Finish as Done, Fail, Uncaught, Ask, Part, Become, Round as OfRound, Block, Test, Fit, Begin, Need}
 use Rattle.step_data.specs.declared.level.Level.{Level}
 use Rattle.step_data.specs.declared.waiting.Waiting.{Waiting}
-use Rattle.step_data.specs.declared.waiting.Waiting.TheVariants.{Expr, After, Called, Rest, Cut as CutTo, Local, LocalFits, Assign, Store, Index, Join, GoalFits, Return, Body, Initial, Leave, Slots, Exit, Branches, Round as BehindFirst, Again, First, Last, By, AtLast, Replaced, Trapped, Defined, DefinedFits, Found, Subject, OfSet, OfSequence, Element, Given, Start, StartAll, End}
-use Rattle.step_data.specs.Actions.{height, busy, waiting_weight}
-use Rattle.thread_stack.specs.Standing.{load, waiting_load}
+use Rattle.step_data.specs.declared.waiting.Waiting.TheVariants.{Expr, After, Called, Rest, Cut as CutTo, Local, LocalFits, Assign, Store, Index, Join, GoalFits, Return, Argument, Back, Parameters, Pre, Body, Leave, Post, Initial, Static, StaticFits, Slots, Exit, Branches, Round as BehindFirst, Again, First, Last, By, AtLast, Replaced, Trapped, Defined, DefinedFits, Found, Subject, OfSet, OfSequence, Element, Given, Start, StartAll, End}
+use Rattle.step_data.specs.Actions.{height, busy, most, waiting_weight}
+use Rattle.thread_stack.specs.Standing.{fuel_load, load, waiting_load}
 
 pub load-push : (levels : List Level) (level : Level) → waiting_load (levels ++ level ∷ []) ≡ waiting_load levels + waiting_weight level.waiting.waiting
 load-push [] level = omega arith
 load-push (first ∷ levels) level = omega (arith, load-push levels level)
 
-weight-le : (w : Waiting) → waiting_weight w ≤ 6
+weight-le : (w : Waiting) → waiting_weight w ≤ 10 + most
 weight-le (Expr frame) = omega arith
 weight-le (After after place) = omega arith
 weight-le Called = omega arith
@@ -28,9 +28,16 @@ weight-le (Index assigning) = omega arith
 weight-le (Join assigning) = omega arith
 weight-le (GoalFits assigning) = omega arith
 weight-le (Return place) = omega arith
-weight-le (Body call saved) = omega arith
+weight-le (Argument requesting tested place) = omega arith
+weight-le (Back saved) = omega arith
+weight-le (Parameters binding) = omega arith
+weight-le (Pre call) = omega arith
+weight-le (Body call count) = omega arith
+weight-le (Leave call) = omega arith
+weight-le (Post call slot) = omega arith
 weight-le (Initial making) = omega arith
-weight-le (Leave me op place) = omega arith
+weight-le (Static making place) = omega arith
+weight-le (StaticFits making tested place) = omega arith
 weight-le (Slots making tested) = omega arith
 weight-le (Exit place) = omega arith
 weight-le (Branches here statement more otherwise place) = omega arith
@@ -65,6 +72,7 @@ busy-le (OfRound here round) = omega arith
 busy-le (Block rest) = omega arith
 busy-le (Test test) = omega arith
 busy-le (Fit fit) = omega arith
+busy-le (Begin call) = omega arith
 busy-le (Need need place after) = omega arith
 
 pub popped-low : (levels left : List Level) (fuel : ℕ) (level : Level) (flow : Flow) (action next : Action) (bound : ℕ)
@@ -84,43 +92,43 @@ no_higher levels fuel n weight bound action is below low = omega (arith, is, bel
 
 -- an action of a part that was entered with its unit
 pub entered-low : (levels now : List Level) (fuel left : ℕ) (level : Level) (r : Result Action OutOfMemory)
-    → fuel ≡ suc left → now ≡ levels ++ level ∷ [] → IfOk r (λ a. height a ≤ 5)
+    → fuel ≡ suc left → now ≡ levels ++ level ∷ [] → IfOk r (λ a. height a ≤ 9 + most)
     → IfOk r (λ a. load now left (height a) ≤ load levels fuel 1)
-entered-low levels now fuel left level (Ok a) e n small = omega (arith, e, ap waiting_load n, load-push levels level, weight-le level.waiting.waiting, small)
+entered-low levels now fuel left level (Ok a) e n small = omega (arith, ap fuel_load e, ap waiting_load n, load-push levels level, weight-le level.waiting.waiting, small)
 entered-low levels now fuel left level (Err x) e n small = tt
 
 pub entered-falls : (levels now : List Level) (fuel left : ℕ) (level : Level) (r : Result Action OutOfMemory)
     → fuel ≡ suc left → now ≡ levels ++ level ∷ []
     → IfOk r (λ a. load now left (busy a) < load levels fuel 1)
-entered-falls levels now fuel left level (Ok a) e n = omega (arith, e, ap waiting_load n, load-push levels level, weight-le level.waiting.waiting, busy-le a)
+entered-falls levels now fuel left level (Ok a) e n = omega (arith, ap fuel_load e, ap waiting_load n, load-push levels level, weight-le level.waiting.waiting, busy-le a)
 entered-falls levels now fuel left level (Err x) e n = tt
 
 -- ... of the test of a value, behind which two levels wait
 pub tests-low : (levels one now : List Level) (fuel left : ℕ) (inner outer : Level) (r : Result Action OutOfMemory)
-    → fuel ≡ suc left → one ≡ levels ++ outer ∷ [] → now ≡ one ++ inner ∷ [] → IfOk r (λ a. height a ≤ 5)
+    → fuel ≡ suc left → one ≡ levels ++ outer ∷ [] → now ≡ one ++ inner ∷ [] → IfOk r (λ a. height a ≤ 9 + most)
     → IfOk r (λ a. load now left (height a) ≤ load levels fuel 1)
 tests-low levels one now fuel left inner outer (Ok a) e o n small =
-    omega (arith, e, ap waiting_load o, ap waiting_load n, load-push levels outer, load-push one inner, weight-le outer.waiting.waiting, weight-le inner.waiting.waiting, small)
+    omega (arith, ap fuel_load e, ap waiting_load o, ap waiting_load n, load-push levels outer, load-push one inner, weight-le outer.waiting.waiting, weight-le inner.waiting.waiting, small)
 tests-low levels one now fuel left inner outer (Err x) e o n small = tt
 
 pub tests-falls : (levels one now : List Level) (fuel left : ℕ) (inner outer : Level) (r : Result Action OutOfMemory)
     → fuel ≡ suc left → one ≡ levels ++ outer ∷ [] → now ≡ one ++ inner ∷ []
     → IfOk r (λ a. load now left (busy a) < load levels fuel 1)
 tests-falls levels one now fuel left inner outer (Ok a) e o n =
-    omega (arith, e, ap waiting_load o, ap waiting_load n, load-push levels outer, load-push one inner, weight-le outer.waiting.waiting, weight-le inner.waiting.waiting, busy-le a)
+    omega (arith, ap fuel_load e, ap waiting_load o, ap waiting_load n, load-push levels outer, load-push one inner, weight-le outer.waiting.waiting, weight-le inner.waiting.waiting, busy-le a)
 tests-falls levels one now fuel left inner outer (Err x) e o n = tt
 
 -- ... of one that was entered in the stead of another
 pub begun-low : (levels : List Level) (fuel left : ℕ) (r : Result Action OutOfMemory)
-    → fuel ≡ suc left → IfOk r (λ a. height a ≤ 5)
+    → fuel ≡ suc left → IfOk r (λ a. height a ≤ 9 + most)
     → IfOk r (λ a. load levels left (height a) ≤ load levels fuel 1)
-begun-low levels fuel left (Ok a) e small = omega (arith, e, small)
+begun-low levels fuel left (Ok a) e small = omega (arith, ap fuel_load e, small)
 begun-low levels fuel left (Err x) e small = tt
 
 -- ... of a need, behind which the node waits
 pub needing-low : (levels now : List Level) (fuel : ℕ) (level : Level) (r : Result Action OutOfMemory)
-    → now ≡ levels ++ level ∷ [] → waiting_weight level.waiting.waiting ≡ 2 → IfOk r (λ a. height a ≤ 3)
-    → IfOk r (λ a. load now fuel (height a) ≤ load levels fuel 5)
+    → now ≡ levels ++ level ∷ [] → waiting_weight level.waiting.waiting ≡ 2 → IfOk r (λ a. height a ≤ 7 + most)
+    → IfOk r (λ a. load now fuel (height a) ≤ load levels fuel (9 + most))
 needing-low levels now fuel level (Ok a) n two small = omega (arith, ap waiting_load n, load-push levels level, two, small)
 needing-low levels now fuel level (Err x) n two small = tt
 
@@ -129,6 +137,13 @@ pub needing-falls : (levels now : List Level) (fuel : ℕ) (level : Level) (r : 
     → IfOk r (λ a. load now fuel (busy a) < load levels fuel 4)
 needing-falls levels now fuel level (Ok a) n two small = omega (arith, ap waiting_load n, load-push levels level, two, small)
 needing-falls levels now fuel level (Err x) n two small = tt
+
+-- ... of a call that begins, behind which the locals wait
+pub calling-low : (levels now : List Level) (fuel count : ℕ) (level : Level) (r : Result Action OutOfMemory)
+    → now ≡ levels ++ level ∷ [] → waiting_weight level.waiting.waiting ≡ 2 → IfOk r (λ a. height a ≤ 2 + count)
+    → IfOk r (λ a. load now fuel (height a) ≤ load levels fuel (4 + count))
+calling-low levels now fuel count level (Ok a) n two small = omega (arith, ap waiting_load n, load-push levels level, two, small)
+calling-low levels now fuel count level (Err x) n two small = tt
 
 -- ... of a block that begins
 pub block-low : (levels : List Level) (fuel : ℕ) (a : Action) → height a ≤ 1 → load levels fuel (height a) ≤ load levels fuel 2

@@ -1,5 +1,5 @@
 -- What the machine's tasks do, with what stands round them.
-use Rattle.std.proofs.Common.{◌≡◌, Bool, true, false, [], refl, ap, ◌∙◌, sym}
+use Rattle.std.proofs.Common.{◌≡◌, true, false, [], refl}
 use Rattle.abstract_syntax.specs.Classes.{SpecTree}
 use Rattle.node_meaning.specs.Envs.{Locals}
 use Rattle.node_meaning.specs.Tasks.{Declared, env_of, placed, task_among, among}

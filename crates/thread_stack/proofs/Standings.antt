@@ -1,8 +1,6 @@
 -- Where a thread stands under what waits in it.
 use Rattle.std.proofs.Common.{◌≡◌, ℕ, suc, List, [], ◌∷◌, ◌++◌, Result, Ok, Err, IfOk, refl, ap, sym, ◌∙◌}
 use Rattle.run_journal.specs.declared.answer.Answer.{Answer}
-use Rattle.run_journal.specs.declared.question.Question.{Question}
-use Rattle.run_journal.specs.declared.question.Question.TheVariants.{Fail}
 use Rattle.abstract_syntax.specs.Classes.{SpecTree}
 use Rattle.plans.specs.Plans.{Outcome, gives, faults, needs, onward, finish, fail, ask, part, become, bind, meaning}
 use Rattle.plans.proofs.Binding.{run-bind}
@@ -12,13 +10,13 @@ use Rattle.node_meaning.specs.Envs.{Locals, Here as MeantHere, at}
 use Rattle.node_meaning.specs.Expressions.{expr_plan}
 use Rattle.node_meaning.specs.Faults.{Fault}
 use Rattle.node_meaning.specs.Matching.{on_truth}
-use Rattle.node_meaning.specs.Tasks.{Declared, declared_behind, Task, round_in, Round as MeantRound, while_true, counts, handles, Flow, Query, noted, Code, placed, spent, task_among, among, with_value}
+use Rattle.node_meaning.specs.Tasks.{Declared, Task, round_in, Round as MeantRound, while_true, counts, handles, Flow, Query, Code, placed, spent, task_among, among, with_value}
+use Rattle.stmt_meaning.specs.Calls.{back, begun as begun_plan}
 use Rattle.stmt_meaning.specs.Handlers.{caught}
 use Rattle.stmt_meaning.specs.Loops.{while_decided, counted}
 use Rattle.stmt_meaning.specs.Questions.{of_thread}
 use Rattle.stmt_meaning.specs.Statements.{stmt_plan}
 use Rattle.stmt_meaning.specs.TaskPlans.{plan_of}
-use Rattle.vdm_meaning.specs.Main.{asks, over, standing_of}
 use Rattle.eval_data.specs.declared.frame.Frame.{Frame}
 use Rattle.eval_data.specs.declared.frame.Frame.TheVariants.{Cut}
 use Rattle.eval_data.specs.declared.here.Here.{Here}
@@ -26,13 +24,14 @@ use Rattle.eval_data.specs.declared.test_part.TestPart.{TestPart}
 use Rattle.eval_data.specs.Parts.{here_of, nest_of}
 use Rattle.step_data.specs.declared.action.Action.{Action}
 use Rattle.step_data.specs.declared.around.Around.{Around}
+use Rattle.step_data.specs.declared.calling.Calling.{Calling}
 use Rattle.step_data.specs.declared.fit_part.FitPart.{FitPart}
 use Rattle.step_data.specs.declared.level.Level.{Level}
 use Rattle.step_data.specs.declared.pending.Pending.{Pending}
 use Rattle.step_data.specs.declared.round.Round.{Round}
-use Rattle.step_data.specs.declared.waiting.Waiting.{Waiting}
 use Rattle.step_data.specs.declared.waiting.Waiting.TheVariants.{Expr, Round as BehindFirst, End}
 use Rattle.step_data.specs.Actions.{waiting_then, level_then, action_code, nested, round_done}
+use Rattle.step_data.specs.Callings.{calling_of, olds_of, read_from}
 use Rattle.step_data.specs.Declarations.{declared_of, surrounded}
 use Rattle.step_data.specs.Parts.{first_task, round_of}
 use Rattle.thread_stack.specs.declared.stack.Stack.{Stack}
@@ -55,51 +54,51 @@ module _ (spec : SpecTree) where
   unwind-push (first ∷ levels) level o = ap (λ o. onward o (λ r. comes_to spec (level_then spec first r))) (unwind-push levels level o)
 
   -- a question is asked whatever waits
-  pub asking-asks : (levels : List Level) (fuel : ℕ) (q : Question) (next : Answer → Code) → stands spec levels fuel (ask (noted q) next) [] ≡ asks q
-  asking-asks levels fuel q next = ap standing_of (unwind-needs levels (noted q))
+  pub asking-asks : (levels : List Level) (fuel : ℕ) (q : Query) (next : Answer → Code) → stands spec levels fuel (ask q next) [] ≡ needs q
+  asking-asks levels fuel q next = unwind-needs levels q
 
-  -- so is a fault, and behind the answer to that the thread is over
-  pub failing-asks : (levels : List Level) (fuel : ℕ) (f : Fault) → stands spec levels fuel (fail f) [] ≡ asks (Fail f.fault f.exit f.place)
-  failing-asks levels fuel f = ap standing_of (unwind-faults levels f [])
+  -- so is a fault, also behind the answer to that
+  pub failing-asks : (levels : List Level) (fuel : ℕ) (f : Fault) → stands spec levels fuel (fail f) [] ≡ faults f []
+  failing-asks levels fuel f = unwind-faults levels f []
 
-  pub failed-over : (levels : List Level) (fuel : ℕ) (f : Fault) (answer : Answer) (answers : List Answer) → stands spec levels fuel (fail f) (answer ∷ answers) ≡ over
-  failed-over levels fuel f answer answers = ap standing_of (unwind-faults levels f (answer ∷ answers))
+  pub failed-over : (levels : List Level) (fuel : ℕ) (f : Fault) (answer : Answer) (answers : List Answer) → stands spec levels fuel (fail f) (answer ∷ answers) ≡ faults f (answer ∷ answers)
+  failed-over levels fuel f answer answers = unwind-faults levels f (answer ∷ answers)
 
   -- a result goes to what waits innermost
   pub finish-goes_on : (levels : List Level) (fuel : ℕ) (level : Level) (flow : Flow) (answers : List Answer)
       → stands spec levels fuel (level_then spec level flow) answers ≡ stands spec (levels ++ level ∷ []) fuel (finish flow) answers
-  finish-goes_on levels fuel level flow answers = ap standing_of (sym (unwind-push levels level (gives flow answers fuel)))
+  finish-goes_on levels fuel level flow answers = sym (unwind-push levels level (gives flow answers fuel))
 
   -- a part is entered with its unit, where what follows it waits
   pub part-enters : (levels : List Level) (fuel : ℕ) (level : Level) (task : Task) (answers : List Answer)
       → stands spec (levels ++ level ∷ []) fuel (plan_of (of_thread spec) task) answers ≡ stands spec levels (suc fuel) (part task (level_then spec level)) answers
   part-enters levels fuel level task answers =
-      ap standing_of (unwind-push levels level (comes_to spec (plan_of (of_thread spec) task) answers fuel)
-      ∙ ap (λ o. unwind spec levels (onward o (λ r. comes_to spec (level_then spec level r)))) (sym (meaning-suc (plan_of (of_thread spec)) spent task answers fuel)))
+      unwind-push levels level (comes_to spec (plan_of (of_thread spec) task) answers fuel)
+      ∙ ap (λ o. unwind spec levels (onward o (λ r. comes_to spec (level_then spec level r)))) (sym (meaning-suc (plan_of (of_thread spec)) spent task answers fuel))
 
   -- one in the stead of a node
   pub become-enters : (levels : List Level) (fuel : ℕ) (task : Task) (answers : List Answer)
       → stands spec levels fuel (plan_of (of_thread spec) task) answers ≡ stands spec levels (suc fuel) (become task) answers
   become-enters levels fuel task answers =
-      ap (λ o. standing_of (unwind spec levels o)) (sym (meaning-suc (plan_of (of_thread spec)) spent task answers fuel))
+      ap (λ o. unwind spec levels o) (sym (meaning-suc (plan_of (of_thread spec)) spent task answers fuel))
 
   -- without a unit they fail
   pub part-spent : (levels : List Level) (next : Flow → Code) (task : Task) (answers : List Answer)
       → stands spec levels 0 (fail (spent task)) answers ≡ stands spec levels 0 (part task next) answers
   part-spent levels next task answers =
-      ap (λ o. standing_of (unwind spec levels (onward o (λ r. comes_to spec (next r))))) (sym (meaning-zero (plan_of (of_thread spec)) spent task answers))
+      ap (λ o. unwind spec levels (onward o (λ r. comes_to spec (next r)))) (sym (meaning-zero (plan_of (of_thread spec)) spent task answers))
 
   pub become-spent : (levels : List Level) (task : Task) (answers : List Answer)
       → stands spec levels 0 (fail (spent task)) answers ≡ stands spec levels 0 (become task) answers
   become-spent levels task answers =
-      ap (λ o. standing_of (unwind spec levels o)) (sym (meaning-zero (plan_of (of_thread spec)) spent task answers))
+      ap (λ o. unwind spec levels o) (sym (meaning-zero (plan_of (of_thread spec)) spent task answers))
 
   -- a plan with another on its result is followed where the other waits
   pub bind-waits : (levels : List Level) (fuel : ℕ) (level : Level) (code : Code) (answers : List Answer)
       → stands spec (levels ++ level ∷ []) fuel code answers ≡ stands spec levels fuel (bind code (level_then spec level)) answers
   bind-waits levels fuel level code answers =
-      ap standing_of (unwind-push levels level (comes_to spec code answers fuel)
-      ∙ ap (unwind spec levels) (sym (run-bind (meaning (plan_of (of_thread spec)) spent) code (level_then spec level) answers fuel)))
+      unwind-push levels level (comes_to spec code answers fuel)
+      ∙ ap (unwind spec levels) (sym (run-bind (meaning (plan_of (of_thread spec)) spent) code (level_then spec level) answers fuel))
 
 -- ---- steps
 
@@ -236,6 +235,16 @@ needing spec levels now outer after fuel level code (Ok a) n same h = λ answers
     ∙ ap (λ (s : Code → Code). stands spec levels fuel (bind (surrounded outer code) (λ flow. s (waiting_then spec level.waiting.waiting flow))) answers) same
     ∙ ap (λ c. stands spec levels fuel c answers) (sym (round-bind outer code (waiting_then spec level.waiting.waiting))))
 needing spec levels now outer after fuel level code (Err x) n same h = tt
+
+-- a call that begins, behind which the locals wait that are put aside
+pub calling : (spec : SpecTree) (levels now : List Level) (outer : Around) (after before locals saved : Locals) (fuel : ℕ) (level : Level) (call : Calling) (r : Result Action OutOfMemory)
+    → now ≡ levels ++ level ∷ [] → surrounded level.around ≡ surrounded outer → waiting_then spec level.waiting.waiting ≡ back saved → saved ≡ locals → before ≡ []
+    → IfOk r (λ a. action_code spec after a ≡ read_from spec call 0 before)
+    → Comes spec now outer after fuel (surrounded outer (begun_plan spec (calling_of call) (olds_of call) locals)) levels fuel r
+calling spec levels now outer after before locals saved fuel level call (Ok a) n same w s b h = λ answers.
+    needing spec levels now outer after fuel level (read_from spec call 0 []) (Ok a) n same (h ∙ ap (λ (l : Locals). read_from spec call 0 l) b) answers
+    ∙ ap (λ (next : Flow → Code). stands spec levels fuel (surrounded outer (bind (read_from spec call 0 []) next)) answers) (w ∙ ap back s)
+calling spec levels now outer after before locals saved fuel level call (Err x) n same w s b h = tt
 
 -- a block begins among its local variables
 pub blocked : (around outer : Around) (own : Declared) (code : Code) → nest_of around.nest ≡ nest_of outer.nest

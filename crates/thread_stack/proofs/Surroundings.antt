@@ -1,5 +1,5 @@
 -- What stands round a plan stands round its parts.
-use Rattle.std.proofs.Common.{◌≡◌, List, [], ◌∷◌, ◌++◌, refl, ap, sym, ◌∙◌, append_assoc, append-nil}
+use Rattle.std.proofs.Common.{◌≡◌, [], ◌∷◌, ◌++◌, refl, ap, sym, ◌∙◌, append_assoc, append-nil}
 use Rattle.vdm_kinds.specs.declared.name.Name.{Name}
 use Rattle.abstract_syntax.specs.Types.{TypeTree}
 use Rattle.run_journal.specs.declared.answer.Answer.{Answer}

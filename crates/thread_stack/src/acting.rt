@@ -1,6 +1,6 @@
 // What a node does next, and what stands round it.
 
-ghost use Rattle.std.specs.Prelude.{◌≡◌, ◌≤◌, ◌<◌, IfOk};
+ghost use Rattle.std.specs.Prelude.{◌≡◌, ◌≤◌, ◌<◌, ◌+◌, IfOk};
 ghost use Rattle.abstract_syntax.specs.Classes.{SpecTree};
 ghost use Rattle.node_meaning.specs.Envs.{Locals};
 ghost use Rattle.node_meaning.specs.Tasks.{Declared as MeantDeclared, spent, task_among};
@@ -9,7 +9,7 @@ ghost use Rattle.stmt_meaning.specs.TaskPlans.{plan_of};
 ghost use Rattle.plans.specs.Plans.{fail};
 ghost use Rattle.spec_table.specs.Tables.{table_spec};
 ghost use Rattle.eval_data.specs.Parts.{flow_of};
-ghost use Rattle.step_data.specs.Actions.{action_code, busy, height, level_then, waiting_weight};
+ghost use Rattle.step_data.specs.Actions.{action_code, busy, height, level_then, most, waiting_weight};
 ghost use Rattle.step_data.specs.Declarations.{declared_of, surrounded};
 ghost use Rattle.step_data.specs.Parts.{task_of};
 
@@ -30,7 +30,7 @@ pub(crate) fn planned<'t>(
     task: Task<'t>,
 ) -> Result<Action<'t>, OutOfMemory>
     ensures same { IfOk result (λ a. surrounded around.new (action_code (table_spec table.now) locals.new.items a) ≡ plan_of (of_thread (table_spec table.now)) (task_among (declared_of around.old.declared) (task_of task.entry locals.old.items))) }
-    ensures falls { IfOk result (λ a. height a ≤ 5) }
+    ensures falls { IfOk result (λ a. height a ≤ 9 + most) }
 {
     around.nest = task.nest();
     let action = node_plan(alloc, table, locals, &around.declared, task)?;

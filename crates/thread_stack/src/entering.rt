@@ -1,21 +1,23 @@
 // How a node is entered.
 
-ghost use Rattle.std.specs.Prelude.{◌≡◌, ◌<◌, ◌≤◌, List, IfOk};
+ghost use Rattle.std.specs.Prelude.{◌≡◌, ◌<◌, ◌≤◌, ◌+◌, List, IfOk, length};
 ghost use Rattle.run_journal.specs.declared.answer.Answer.{Answer as AnswerView};
 ghost use Rattle.spec_table.specs.Tables.{table_spec};
 ghost use Rattle.eval_data.specs.Parts.{flow_of};
-ghost use Rattle.step_data.specs.Actions.{action_code, busy, height, level_then, waiting_weight};
+ghost use Rattle.step_data.specs.Actions.{action_code, busy, height, level_then, most, waiting_weight};
 ghost use Rattle.step_data.specs.Declarations.{surrounded};
 ghost use Rattle.thread_stack.specs.Standing.{load, stands_with};
 
 use crate::acting::{behind, planned, unentered};
 use crate::stack::Stack;
-use call_steps::need::needed;
 use eval_data::{After, Flow, Here, Need};
 use flow_steps::sequence;
+use next_steps::handed::call_steps::begun;
+use next_steps::handed::object_steps::needed;
 use plans::take_unit;
 use std::alloc::Global;
-use step_data::{Action, Around, BlockRest, Level, Pending, Round, Task, Waiting};
+use std::mem;
+use step_data::{Action, Around, BlockRest, Calling, Level, Pending, Round, Task, Waiting};
 use vdm_kinds::{OutOfMemory, Place};
 
 impl<'t> Stack<'t> {
@@ -105,10 +107,10 @@ impl<'t> Stack<'t> {
         alloc: Global,
         need: Need,
         place: Place,
-        after: After,
+        after: After<'t>,
     ) -> Result<Action<'t>, OutOfMemory>
-        ensures same { IfOk result (λ a. (answers : List AnswerView) → stands_with self.new a answers ≡ stands_with self.old (Action.Need need place after) answers) }
-        ensures low { IfOk result (λ a. load self.new.levels.items self.new.fuel (height a) ≤ load self.old.levels.items self.old.fuel 5) }
+        ensures same { IfOk result (λ a. (answers : List AnswerView) → stands_with self.new a answers ≡ stands_with self.old (Action.Need need place after.entry) answers) }
+        ensures low { IfOk result (λ a. load self.new.levels.items self.new.fuel (height a) ≤ load self.old.levels.items self.old.fuel (9 + most)) }
         ensures falls { IfOk result (λ a. load self.new.levels.items self.new.fuel (busy a) < load self.old.levels.items self.old.fuel 4) }
         ensures table { self.new.table ≡ self.old.table }
     {
@@ -118,6 +120,22 @@ impl<'t> Stack<'t> {
         };
         self.levels.push(Level { around, waiting })?;
         needed(alloc, self.table, &mut self.locals, need, place)
+    }
+
+    /// Begins a call, with the locals put aside: the node that calls waits for them.
+    pub fn call(&mut self, alloc: Global, call: Box<Calling<'t>>) -> Result<Action<'t>, OutOfMemory>
+        ensures same { IfOk result (λ a. (answers : List AnswerView) → stands_with self.new a answers ≡ stands_with self.old (Action.Begin call.entry) answers) }
+        ensures low { IfOk result (λ a. load self.new.levels.items self.new.fuel (height a) ≤ load self.old.levels.items self.old.fuel (4 + length call.entry.value.olds.items)) }
+        ensures falls { IfOk result (λ a. load self.new.levels.items self.new.fuel (busy a) < load self.old.levels.items self.old.fuel 4) }
+        ensures table { self.new.table ≡ self.old.table }
+    {
+        let around = self.around.share()?;
+        let saved = mem::replace(&mut self.locals, Vec::new(alloc));
+        let waiting = Pending {
+            waiting: Waiting::Back(saved),
+        };
+        self.levels.push(Level { around, waiting })?;
+        begun(alloc, self.table, &mut self.locals, call)
     }
 
     /// Goes on with what came, on the level that waited for it and has been taken off.

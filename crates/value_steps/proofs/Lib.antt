@@ -1,4 +1,5 @@
 mod Elseifs
 mod FirstBracket
+mod FirstItem
 mod InTuples
 mod Leaves

@@ -17,7 +17,7 @@ use Rattle.value_steps.specs.declared.gathering.Gathered.TheVariants.{Part, All}
 -- a part is still to come, or all values are there and something is done with them
 abbrev pub gathered_code : Setting → Locals → Gathered → Code
 gathered_code setting locals (Part step) = code_of setting locals step
-gathered_code setting locals (All here place values what) = then_of setting.spec what (here_of here) place values.items locals
+gathered_code setting locals (All here place values what) = then_of setting what (here_of here) place values.items locals
 
 -- what is done with a truth value, where the value is one
 abbrev pub where_truth : Place → (Bool → Locals → Code) → Option Bool → Locals → Code

@@ -35,7 +35,7 @@ pub fn collected<'t>(
     done: Vec<Value>,
     then: Then<'t>,
 ) -> Result<Gathered<'t>, OutOfMemory>
-    ensures { IfOk result (λ g. (setting : Setting) (locals : Locals) → gathered_code setting locals g ≡ collected (here_of here.entry) place (parts_of parts.entry) done.items (then_of setting.spec then.entry (here_of here.entry) place) locals) }
+    ensures { IfOk result (λ g. (setting : Setting) (locals : Locals) → gathered_code setting locals g ≡ collected (here_of here.entry) place (parts_of parts.entry) done.items (then_of setting then.entry (here_of here.entry) place) locals) }
 {
     match next_part(parts) {
         None => Ok(Gathered::All(here, place, done, then)),
@@ -58,7 +58,7 @@ pub fn part_among<'t>(
     tree: &'t Expr,
     collecting: Collecting<'t>,
 ) -> Result<Step<'t>, OutOfMemory>
-    ensures { IfOk result (λ s. (setting : Setting) (locals : Locals) → code_of setting locals s ≡ evaluated (here_of collecting.entry.here) locals (view_of tree.entry.now) collecting.entry.place (collect setting.spec collecting.entry)) }
+    ensures { IfOk result (λ s. (setting : Setting) (locals : Locals) → code_of setting locals s ≡ evaluated (here_of collecting.entry.here) locals (view_of tree.entry.now) collecting.entry.place (collect setting collecting.entry)) }
 {
     let here = collecting.here;
     let place = collecting.place;
@@ -72,15 +72,10 @@ pub fn with_value<'t>(
     collecting: Box<Collecting<'t>>,
     value: Value,
 ) -> Result<Gathered<'t>, OutOfMemory>
-    ensures { IfOk result (λ g. (setting : Setting) (locals : Locals) → gathered_code setting locals g ≡ collect setting.spec collecting.entry.value value locals) }
+    ensures { IfOk result (λ g. (setting : Setting) (locals : Locals) → gathered_code setting locals g ≡ collect setting collecting.entry.value value locals) }
 {
-    let Collecting {
-        here,
-        place,
-        rest,
-        mut done,
-        then,
-    } = Box::into_inner(collecting);
+    let (here, place, rest, done, then) = Box::into_inner(collecting).into_parts();
+    let mut done = done;
     done.push(value)?;
     collected(alloc, here, place, rest, done, then)
 }

@@ -21,6 +21,6 @@ pub use operands::{operand, operators, prefix, range, right_operand};
 pub use outcome::{make, outcome_step};
 pub use parts::next_part;
 pub use strict_nodes::{
-    component, map_enumeration, sequence_enumeration, set_enumeration, strict, subsequence, token,
-    tuple_enumeration,
+    class_tested, component, map_enumeration, sequence_enumeration, set_enumeration, strict,
+    subsequence, token, tuple_enumeration,
 };

@@ -20,7 +20,7 @@ pub fn next_part<'t>(parts: Parts<'t>) -> Option<(&'t Expr, Parts<'t>)>
         Parts::One(a) => Some((boxed(a), Parts::None)),
         Parts::Two(a, b) => Some((boxed(a), Parts::One(b))),
         Parts::Three(a, b, c) => Some((boxed(a), Parts::Two(b, c))),
-        Parts::Items(items) => next_item(items),
+        Parts::Items(items, from) => next_item(items, from),
         Parts::Maplets(maplets) => next_key(maplets),
         Parts::MapletValue(held, maplets) => Some((boxed(held), Parts::Maplets(maplets))),
         Parts::Changes(changes) => next_change(changes),
@@ -35,13 +35,14 @@ pub(crate) fn boxed<'t>(tree: &'t Box<Expr>) -> &'t Expr
     tree
 }
 
-fn next_item<'t>(items: &'t [Expr]) -> Option<(&'t Expr, Parts<'t>)>
-    ensures { MatchOption result (expr_trees (views_of items.now) ≡ no_exprs) (λ p. expr_trees (views_of items.now) ≡ one_expr (view_of p.0.now) (parts_of p.1)) }
+/// The item at a number.
+fn next_item<'t>(items: &'t Vec<Expr>, from: usize) -> Option<(&'t Expr, Parts<'t>)>
+    ensures { MatchOption result (expr_trees (drop from (views_of items.now.items)) ≡ no_exprs) (λ p. expr_trees (drop from (views_of items.now.items)) ≡ one_expr (view_of p.0.now) (parts_of p.1)) }
 {
-    match items {
-        [] => None,
-        [first, others @ ..] => Some((first, Parts::Items(others))),
+    if from >= items.len() {
+        return None;
     }
+    Some((&items[from], Parts::Items(items, from + 1)))
 }
 
 /// The key of the first of the maplets.

@@ -1,18 +1,19 @@
-// Nodes that evaluate all their parts, from left to right, and make a value of them.
+// Nodes that evaluate all their parts, from left to right, and make a value of them, or tell something of their classes.
 
 ghost use Rattle.std.specs.Prelude.{◌≡◌, IfOk, map};
 ghost use Rattle.abstract_syntax.specs.Expressions.{no_exprs, one_expr};
 ghost use Rattle.expr_tree.specs.View.{boxed_view, views_of, expr_trees, maplet_view, maplet_trees};
 ghost use Rattle.node_meaning.specs.Envs.{Locals};
+ghost use Rattle.node_meaning.specs.Expressions.{class_tested};
 ghost use Rattle.node_meaning.specs.Needs.{Setting};
 ghost use Rattle.node_meaning.specs.Strict.{strict, a_set, a_sequence, a_tuple, a_map, a_token, a_subsequence, a_component, maplet_exprs};
-ghost use Rattle.eval_data.specs.Parts.{here_of, parts_of, strict_of};
+ghost use Rattle.eval_data.specs.Parts.{class_test_of, here_of, parts_of, strict_of};
 ghost use Rattle.eval_data.specs.Steps.{code_of};
 
 use crate::gathering::part_among;
 use crate::outcome::make;
-use crate::parts::next_part;
-use eval_data::{Collecting, Here, Parts, Step, Strict, Then};
+use crate::parts::{boxed, next_part};
+use eval_data::{ClassTest, Collecting, Here, Parts, Step, Strict, Then};
 use expr_tree::{Expr, Maplet};
 use std::alloc::Global;
 use vdm_kinds::{OutOfMemory, Place};
@@ -46,36 +47,36 @@ pub fn strict<'t>(
 pub fn set_enumeration<'t>(
     alloc: Global,
     here: Here<'t>,
-    elements: &'t [Expr],
+    elements: &'t Vec<Expr>,
     place: Place,
 ) -> Result<Step<'t>, OutOfMemory>
-    ensures { IfOk result (λ s. (setting : Setting) (locals : Locals) → code_of setting locals s ≡ strict (here_of here.entry) a_set place (expr_trees (views_of elements.entry.now)) locals) }
+    ensures { IfOk result (λ s. (setting : Setting) (locals : Locals) → code_of setting locals s ≡ strict (here_of here.entry) a_set place (expr_trees (views_of elements.entry.now.items)) locals) }
 {
-    strict(alloc, here, Strict::Set, place, Parts::Items(elements))
+    strict(alloc, here, Strict::Set, place, Parts::Items(elements, 0))
 }
 
 /// `[a, b]`
 pub fn sequence_enumeration<'t>(
     alloc: Global,
     here: Here<'t>,
-    items: &'t [Expr],
+    items: &'t Vec<Expr>,
     place: Place,
 ) -> Result<Step<'t>, OutOfMemory>
-    ensures { IfOk result (λ s. (setting : Setting) (locals : Locals) → code_of setting locals s ≡ strict (here_of here.entry) a_sequence place (expr_trees (views_of items.entry.now)) locals) }
+    ensures { IfOk result (λ s. (setting : Setting) (locals : Locals) → code_of setting locals s ≡ strict (here_of here.entry) a_sequence place (expr_trees (views_of items.entry.now.items)) locals) }
 {
-    strict(alloc, here, Strict::Sequence, place, Parts::Items(items))
+    strict(alloc, here, Strict::Sequence, place, Parts::Items(items, 0))
 }
 
 /// `mk_(a, b)`
 pub fn tuple_enumeration<'t>(
     alloc: Global,
     here: Here<'t>,
-    parts: &'t [Expr],
+    parts: &'t Vec<Expr>,
     place: Place,
 ) -> Result<Step<'t>, OutOfMemory>
-    ensures { IfOk result (λ s. (setting : Setting) (locals : Locals) → code_of setting locals s ≡ strict (here_of here.entry) a_tuple place (expr_trees (views_of parts.entry.now)) locals) }
+    ensures { IfOk result (λ s. (setting : Setting) (locals : Locals) → code_of setting locals s ≡ strict (here_of here.entry) a_tuple place (expr_trees (views_of parts.entry.now.items)) locals) }
 {
-    strict(alloc, here, Strict::Tuple, place, Parts::Items(parts))
+    strict(alloc, here, Strict::Tuple, place, Parts::Items(parts, 0))
 }
 
 /// `{a |-> b, c |-> d}`
@@ -139,4 +140,25 @@ pub fn component<'t>(
         place,
         Parts::One(target),
     )
+}
+
+/// A test of the classes of the values of these parts.
+pub fn class_tested<'t>(
+    alloc: Global,
+    here: Here<'t>,
+    test: ClassTest,
+    place: Place,
+    first: &'t Box<Expr>,
+    rest: Parts<'t>,
+) -> Result<Step<'t>, OutOfMemory>
+    ensures { IfOk result (λ s. (setting : Setting) (locals : Locals) → code_of setting locals s ≡ class_tested setting.spec (here_of here.entry) (class_test_of test) place (one_expr (boxed_view first.entry.now) (parts_of rest.entry)) locals) }
+{
+    let collecting = Collecting {
+        here,
+        place,
+        rest,
+        done: Vec::new(alloc),
+        then: Then::Classes(test),
+    };
+    part_among(alloc, boxed(first), collecting)
 }

@@ -20,7 +20,8 @@ pub(crate) fn is_string(items: &[Value]) -> bool
     is_character(first) && are_characters(rest)
 }
 
-fn are_characters(items: &[Value]) -> bool
+/// Whether all of these are characters.
+pub(crate) fn are_characters(items: &[Value]) -> bool
     ensures { result ≡ are_characters (value_trees items.now) }
 {
     for item in items {

@@ -84,15 +84,18 @@ accepted_text : (call : Call) (told text : List ℕ) (limits : Limits) (r : Runs
 accepted_text call told text limits r p =
     subst (λ t. IsAccepted told t r.names r.runs.tree r.runs.expression) (same_text call.words r.text text r.limits limits r.command p) r.runs.accepted
 
-pub journal_is_the_run : (call : Call) (told text : List ℕ) (limits : Limits) (names : List (List ℕ)) (tree : SpecTree) (expression : ExprTree) → KeepsJournal call → call.source.before ≡ Some told → RunsText call.words text limits → IsAccepted told text names tree expression → IsRun tree expression limits.steps call.report.journal × IsInOrder tree call.report.journal
+pub journal_is_the_run : (call : Call) (told text : List ℕ) (limits : Limits) (names : List (List ℕ)) (tree : SpecTree) (expression : ExprTree) → KeepsJournal call → call.source.before ≡ Some told → RunsText call.words text limits → IsAccepted told text names tree expression → IsRun names tree expression limits.steps call.report.journal × IsInOrder tree call.report.journal
 journal_is_the_run call told text limits names tree expression k e p h =
     elim (k.told told e) [
-      | inl none ↦ (subst (IsRun tree expression limits.steps) (sym none) tt, subst (IsInOrder tree) (sym none) tt)
+      | inl none ↦ (subst (IsRun names tree expression limits.steps) (sym none) tt, subst (IsInOrder tree) (sym none) tt)
       | inr r ↦
           let own = r.1.runs in
           let same = one_accepted told text r.1.names names own.tree tree own.expression expression (accepted_text call told text limits r.1 p) h in
           let units = same_limits call.words r.1.text text r.1.limits limits r.1.command p in (
-            subst (λ l. IsRun tree expression l.steps call.report.journal) units (subst (λ x. IsRun tree x r.1.limits.steps call.report.journal) same.1 (subst (λ t. IsRun t own.expression r.1.limits.steps call.report.journal) same.0 own.run_of)),
+            subst (λ l. IsRun names tree expression l.steps call.report.journal) units
+                (subst (λ x. IsRun names tree x r.1.limits.steps call.report.journal) same.1
+                (subst (λ t. IsRun names t own.expression r.1.limits.steps call.report.journal) same.0
+                (subst (λ those. IsRun those own.tree own.expression r.1.limits.steps call.report.journal) same.2 own.run_of))),
             subst (λ t. IsInOrder t call.report.journal) same.0 own.order,
           )
     ]

@@ -41,13 +41,14 @@ one_pair {A = A} {B = B} read a c b d e f =
 one_tree : (spec : List ℕ) (a b : SpecTree) → IsChecked spec a → IsChecked spec b → a ≡ b
 one_tree spec a b h k = (one_pair (read_spec spec) h.names k.names a b h.specification k.specification).1
 
-pub one_accepted : (spec text : List ℕ) (m n : List (List ℕ)) (a b : SpecTree) (e f : ExprTree) → IsAccepted spec text m a e → IsAccepted spec text n b f → (a ≡ b) × (e ≡ f)
+pub one_accepted : (spec text : List ℕ) (m n : List (List ℕ)) (a b : SpecTree) (e f : ExprTree) → IsAccepted spec text m a e → IsAccepted spec text n b f → (a ≡ b) × (e ≡ f) × (m ≡ n)
 one_accepted spec text m n a b e f h k =
     let same = one_pair (read_spec spec) h.first k.first a b h.specification k.specification in
     let other : read_expr h.first a text ≡ Ok (n, f) =
     subst (λ (t : SpecTree). read_expr h.first t text ≡ Ok (n, f)) (sym same.1)
     (subst (λ (first : List (List ℕ)). read_expr first b text ≡ Ok (n, f)) (sym same.0) k.expression_tree) in
-    (same.1, (one_pair (read_expr h.first a text) m n e f h.expression_tree other).1)
+    let both = one_pair (read_expr h.first a text) m n e f h.expression_tree other in
+    (same.1, both.1, both.0)
 
 -- the classes of a specification are counted once
 pub same_count : (spec : List ℕ) (tree : SpecTree) (classes : ℕ) → IsChecked spec tree → HasClasses spec classes → classes ≡ length tree.classes

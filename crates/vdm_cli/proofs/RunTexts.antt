@@ -13,7 +13,7 @@ use Rattle.vdm_cli.specs.Meant.{WasRead, MeansTexts, MeansCommand}
 use Rattle.vdm_cli.specs.RunEnds.{RunsTo}
 
 -- the run of accepted texts is what they mean
-pub means_texts : (spec text : List ℕ) (limits : Limits) (log : Bool) (names : List (List ℕ)) (tree : SpecTree) (expression : ExprTree) (journal : List Entry) (end : End) → IsAccepted spec text names tree expression → RunsTo tree expression limits.steps journal end → MeansTexts (run text limits log) spec names journal end
+pub means_texts : (spec text : List ℕ) (limits : Limits) (log : Bool) (names : List (List ℕ)) (tree : SpecTree) (expression : ExprTree) (journal : List Entry) (end : End) → IsAccepted spec text names tree expression → RunsTo names tree expression limits.steps journal end → MeansTexts (run text limits log) spec names journal end
 means_texts spec text limits log names tree expression journal (Ended slot) h r = (record { tree = tree; expression = expression; accepted = h; run_of = r.run; order = r.order }, r.ends)
 means_texts spec text limits log names tree expression journal (Failed fault exit thread place) h r = (record { tree = tree; expression = expression; accepted = h; run_of = r.run; order = r.order }, r.ends)
 means_texts spec text limits log names tree expression journal OutOfMemory h r = inr (record { tree = tree; expression = expression; accepted = h; run_of = r.run; order = r.order })

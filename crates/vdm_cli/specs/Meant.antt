@@ -38,7 +38,7 @@ pub record Runs (spec text : List ℕ) (names : List (List ℕ)) (limits : Limit
   pub tree : SpecTree
   pub expression : ExprTree
   pub accepted : IsAccepted spec text names tree expression
-  pub run_of : IsRun tree expression limits.steps journal
+  pub run_of : IsRun names tree expression limits.steps journal
   pub order : IsInOrder tree journal
 
 -- the specification is accepted, and has so many classes

@@ -17,10 +17,10 @@ EndsRun journal (Failed fault exit thread place) = finish_of journal ≡ finish_
 EndsRun journal OutOfMemory = Unit {0}
 EndsRun journal _ = ⊥
 
--- a run of a specification and an expression with these units, in the order of one lane: to its end, or as far as memory
--- allowed
-pub record RunsTo (spec : SpecTree) (tree : ExprTree) (units : ℕ) (journal : List Entry) (end : End) : Type 0 where
-  pub run : IsRun spec tree units journal
+-- a run of a specification and an expression with these units, over the names of their texts, in the order of one lane: to its
+-- end, or as far as memory allowed
+pub record RunsTo (names : List (List ℕ)) (spec : SpecTree) (tree : ExprTree) (units : ℕ) (journal : List Entry) (end : End) : Type 0 where
+  pub run : IsRun names spec tree units journal
   pub order : IsInOrder spec journal
   pub ends : EndsRun journal end
   pub line : HasReportLine end

@@ -43,7 +43,7 @@ pub fn the_journal_is_the_run()
         → call.source.before ≡ Some told
         → RunsText call.words text limits
         → IsAccepted told text names tree expression
-        → IsRun tree expression limits.steps call.report.journal × IsInOrder tree call.report.journal }
+        → IsRun names tree expression limits.steps call.report.journal × IsInOrder tree call.report.journal }
 {}
 
 /// The journal is empty where the words are no command, or `check`; where the texts have a refusal, where the source was not

@@ -115,7 +115,14 @@ fn meant_of_texts(
 {
     match read_texts(alloc, spec, text, names) {
         Ok((checked, expression)) => {
-            run(alloc, checked.table(), expression.expr(), limits.steps, log)
+            run(
+                alloc,
+                names,
+                checked.table(),
+                expression.expr(),
+                limits.steps,
+                log,
+            )
         }
         Err(Halt::Of(fault)) => Report::without_run(alloc, End::Refused(fault), log),
         Err(Halt::OutOfMemory) => Report::without_run(alloc, End::OutOfMemory, log),

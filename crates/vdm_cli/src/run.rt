@@ -12,17 +12,25 @@ ghost use Rattle.plain_state.specs.Finishes.{finishes};
 use plain_state::Finish;
 use std::alloc::Global;
 use text_reader::handed::spec_table::ClassTable;
+use vdm_names::Names;
 use vdm_report::{End, Report};
 use vdm_tree::Expr;
 
-/// Runs an expression under the table's specification, with so many units, and reports the run. Where memory runs out, the
-/// entries made so far stay.
-pub fn run(alloc: Global, table: &ClassTable, tree: &Expr, steps: u64, log: bool) -> Report
-    ensures run { RunsTo (table_spec table.now) (view_of tree.now) steps result.journal result.end }
+/// Runs an expression under the table's specification, with so many units and the names of both texts, and reports the run. Where
+/// memory runs out, the entries made so far stay.
+pub fn run(
+    alloc: Global,
+    names: &Names,
+    table: &ClassTable,
+    tree: &Expr,
+    steps: u64,
+    log: bool,
+) -> Report
+    ensures run { RunsTo names.now (table_spec table.now) (view_of tree.now) steps result.journal result.end }
     ensures status { result.status ≡ status_of result.end }
     ensures log { result.log ≡ log }
 {
-    let ran = plain_run::run(alloc, table, tree, steps);
+    let ran = plain_run::run(alloc, names, table, tree, steps);
     Report::new(end_after(ran.finish), ran.journal, log)
 }
 

@@ -1,4 +1,4 @@
--- Values that are known behind entries: each object in them was made. They stay known behind further entries.
+-- Values that are known behind entries: each object in them was made, and so were all class objects. They stay known behind further entries.
 use Rattle.std.proofs.Common.{◌≡◌, ◌≢◌, ℕ, List, [], ◌∷◌, ◌++◌, refl, sym, ap, ◌∙◌, if◌then◌else◌}
 use Rattle.std.specs.List.{AllByRecursion as Each}
 use Rattle.std.proofs.lemmas.Bool.{eq-eqb}
@@ -7,6 +7,7 @@ use Rattle.vdm_kinds.specs.declared.name.Name.{Name}
 use Rattle.vdm_values.specs.declared.slot.Slot.{Slot}
 use Rattle.vdm_values.specs.declared.slot.Slot.TheVariants.{Unset, Held}
 use Rattle.abstract_syntax.specs.Values.{ValueTree, ValueTrees, PairTrees, token, tuple, record_of, sequence, set_of, map_of, object}
+use Rattle.abstract_syntax.specs.Classes.{SpecTree}
 use Rattle.abstract_syntax.specs.Values.{no_values, one_value, no_pairs, one_pair}
 use Rattle.run_journal.specs.declared.deed.Deed.{Deed}
 use Rattle.run_journal.specs.declared.deed.Deed.TheVariants as deed
@@ -15,36 +16,37 @@ use Rattle.run_journal.specs.declared.thread.Thread.TheVariants.{Main}
 use Rattle.run_journal.specs.declared.write.Write.{Write as Pair}
 use Rattle.run_journal.specs.Made.{entry}
 use Rattle.run_journal.specs.Parts.{is_on, object_part}
+use Rattle.vdm_legal.specs.ClassObjects.{AreMade}
 use Rattle.value_parts.specs.Objects.{EachObject, EachObjectIn, EachObjectInPairs}
 use Rattle.value_parts.proofs.Everywhere.{each_append}
 
 -- ---- what is known
 
--- something stands on the object, of whatever class
-abbrev pub IsThere : List Entry → ℕ → Name → Type 0
-IsThere entries n class = object_part n entries ≢ []
+-- something stands on the object, of whatever class, and on each class object: an object comes behind all of these
+abbrev pub IsThere : SpecTree → List Entry → ℕ → Name → Type 0
+IsThere spec entries n class = (object_part n entries ≢ []) × AreMade spec entries
 
-abbrev pub IsKnown : List Entry → ValueTree → Type 0
-IsKnown entries = EachObject (IsThere entries)
+abbrev pub IsKnown : SpecTree → List Entry → ValueTree → Type 0
+IsKnown spec entries = EachObject (IsThere spec entries)
 
 -- a slot that is unset, or holds a known value
-abbrev pub IsKnownSlot : List Entry → Slot → Type 0
-IsKnownSlot entries Unset = Unit {0}
-IsKnownSlot entries (Held v) = IsKnown entries v
+abbrev pub IsKnownSlot : SpecTree → List Entry → Slot → Type 0
+IsKnownSlot spec entries Unset = Unit {0}
+IsKnownSlot spec entries (Held v) = IsKnown spec entries v
 
-abbrev pub IsKnownPair : List Entry → Pair → Type 0
-IsKnownPair entries pair = IsKnown entries pair.value
+abbrev pub IsKnownPair : SpecTree → List Entry → Pair → Type 0
+IsKnownPair spec entries pair = IsKnown spec entries pair.value
 
 -- what a deed gives the variables of an object is known
-abbrev pub KeepsKnown : List Entry → Deed → Type 0
-KeepsKnown entries (deed.Class class slots) = Each (IsKnownSlot entries) slots
-KeepsKnown entries (deed.New class slots) = Each (IsKnownSlot entries) slots
-KeepsKnown entries (deed.Write pairs refused) = Each (IsKnownPair entries) pairs
-KeepsKnown entries _ = Unit {0}
+abbrev pub KeepsKnown : SpecTree → List Entry → Deed → Type 0
+KeepsKnown spec entries (deed.Class class slots) = Each (IsKnownSlot spec entries) slots
+KeepsKnown spec entries (deed.New class slots) = Each (IsKnownSlot spec entries) slots
+KeepsKnown spec entries (deed.Write pairs refused) = Each (IsKnownPair spec entries) pairs
+KeepsKnown spec entries _ = Unit {0}
 
 -- what each of some entries gives is known behind all
-abbrev pub AllKnown : List Entry → List Entry → Type 0
-AllKnown entries = Each (λ (e : Entry). KeepsKnown entries e.deed)
+abbrev pub AllKnown : SpecTree → List Entry → List Entry → Type 0
+AllKnown spec entries = Each (λ (e : Entry). KeepsKnown spec entries e.deed)
 
 -- ---- properties that hold of more
 
@@ -95,23 +97,28 @@ module _ (before more after : List Entry) (e : after ≡ before ++ more) where
   there-on o there none =
       more-there (object_part o before) (object_part o more) there (sym (filter-append (is_on o) before more) ∙ ap (object_part o) (sym e) ∙ none)
 
-  pub known-on : (v : ValueTree) → IsKnown before v → IsKnown after v
-  known-on = object_wider (IsThere before) (IsThere after) (λ n class. there-on n)
+  module _ (spec : SpecTree) where
+    pub made-on : AreMade spec before → AreMade spec after
+    made-on made k is = there-on k (made k is)
 
-  pub slot-on : (slot : Slot) → IsKnownSlot before slot → IsKnownSlot after slot
-  slot-on Unset h = tt
-  slot-on (Held v) h = known-on v h
+    pub known-on : (v : ValueTree) → IsKnown spec before v → IsKnown spec after v
+    known-on = object_wider (IsThere spec before) (IsThere spec after) (λ n class there. (there-on n there.0, made-on there.1))
 
-  keeps-on : (d : Deed) → KeepsKnown before d → KeepsKnown after d
-  keeps-on (deed.Class class slots) h = each_wider (IsKnownSlot before) (IsKnownSlot after) slot-on slots h
-  keeps-on (deed.New class slots) h = each_wider (IsKnownSlot before) (IsKnownSlot after) slot-on slots h
-  keeps-on (deed.Write pairs refused) h = each_wider (IsKnownPair before) (IsKnownPair after) (λ (pair : Pair). known-on pair.value) pairs h
-  keeps-on d h = tt
+    pub slot-on : (slot : Slot) → IsKnownSlot spec before slot → IsKnownSlot spec after slot
+    slot-on Unset h = tt
+    slot-on (Held v) h = known-on v h
+
+    keeps-on : (d : Deed) → KeepsKnown spec before d → KeepsKnown spec after d
+    keeps-on (deed.Class class slots) h = each_wider (IsKnownSlot spec before) (IsKnownSlot spec after) slot-on slots h
+    keeps-on (deed.New class slots) h = each_wider (IsKnownSlot spec before) (IsKnownSlot spec after) slot-on slots h
+    keeps-on (deed.Write pairs refused) h =
+        each_wider (IsKnownPair spec before) (IsKnownPair spec after) (λ (pair : Pair). known-on pair.value) pairs h
+    keeps-on d h = tt
 
 -- one entry more
-pub known-more : (before : List Entry) (x : Entry) → AllKnown before before → KeepsKnown before x.deed → AllKnown (before ++ x ∷ []) (before ++ x ∷ [])
-known-more before x h k =
+pub known-more : (spec : SpecTree) (before : List Entry) (x : Entry) → AllKnown spec before before → KeepsKnown spec before x.deed → AllKnown spec (before ++ x ∷ []) (before ++ x ∷ [])
+known-more spec before x h k =
     let after = before ++ x ∷ [] in
-    each_append (λ (e : Entry). KeepsKnown after e.deed) before (x ∷ [])
-    (each_wider (λ (e : Entry). KeepsKnown before e.deed) (λ (e : Entry). KeepsKnown after e.deed) (λ e. keeps-on before (x ∷ []) after refl e.deed) before h)
-    (keeps-on before (x ∷ []) after refl x.deed k, tt)
+    each_append (λ (e : Entry). KeepsKnown spec after e.deed) before (x ∷ [])
+    (each_wider (λ (e : Entry). KeepsKnown spec before e.deed) (λ (e : Entry). KeepsKnown spec after e.deed) (λ e. keeps-on before (x ∷ []) after refl spec e.deed) before h)
+    (keeps-on before (x ∷ []) after refl spec x.deed k, tt)

@@ -15,55 +15,55 @@ use Rattle.vdm_legal.specs.State.{is_same_variable, last_of, written_in, written
 use Rattle.vdm_legal.proofs.Known.{IsKnown, IsKnownSlot, IsKnownPair, KeepsKnown, AllKnown}
 
 -- `entries` are all entries, behind which the values are known
-module _ (entries : List Entry) where
+module _ (spec : SpecTree) (entries : List Entry) where
   -- ---- what was written last
 
-  last-known : (a b : Option ValueTree) → IfSome a (IsKnown entries) → IfSome b (IsKnown entries) → IfSome (last_of a b) (IsKnown entries)
+  last-known : (a b : Option ValueTree) → IfSome a (IsKnown spec entries) → IfSome b (IsKnown spec entries) → IfSome (last_of a b) (IsKnown spec entries)
   last-known a None h k = h
   last-known a (Some v) h k = k
 
-  written-known : (var : VarRef) (pairs : List Pair) → Each (IsKnownPair entries) pairs → IfSome (written_in var pairs) (IsKnown entries)
+  written-known : (var : VarRef) (pairs : List Pair) → Each (IsKnownPair spec entries) pairs → IfSome (written_in var pairs) (IsKnown spec entries)
   written-known var [] h = tt
   written-known var (pair ∷ pairs) h = last-known (if is_same_variable var pair.var then Some pair.value else None) (written_in var pairs) (one (is_same_variable var pair.var)) (written-known var pairs h.1)
     where
-      one : (b : Bool) → IfSome (if b then Some pair.value else None) (IsKnown entries)
+      one : (b : Bool) → IfSome (if b then Some pair.value else None) (IsKnown spec entries)
       one true = h.0
       one false = tt
 
-  deed-known : (var : VarRef) (d : Deed) → KeepsKnown entries d → IfSome (written_by var d) (IsKnown entries)
+  deed-known : (var : VarRef) (d : Deed) → KeepsKnown spec entries d → IfSome (written_by var d) (IsKnown spec entries)
   deed-known var (deed.Write pairs false) h = written-known var pairs h
   deed-known var _ h = tt
 
-  last_written-known : (var : VarRef) (part : List Entry) → AllKnown entries part → IfSome (last_written var part) (IsKnown entries)
+  last_written-known : (var : VarRef) (part : List Entry) → AllKnown spec entries part → IfSome (last_written var part) (IsKnown spec entries)
   last_written-known var [] h = tt
   last_written-known var (e ∷ part) h = last-known (written_by var e.deed) (last_written var part) (deed-known var e.deed h.0) (last_written-known var part h.1)
 
   -- ---- what was there first
 
-  among-known : (var : VarRef) (others : List VarRef) (slots : List Slot) → Each (IsKnownSlot entries) slots → IsKnownSlot entries (slot_among var others slots)
+  among-known : (var : VarRef) (others : List VarRef) (slots : List Slot) → Each (IsKnownSlot spec entries) slots → IsKnownSlot spec entries (slot_among var others slots)
   among-known var [] slots h = tt
   among-known var (other ∷ others) [] h = tt
   among-known var (other ∷ others) (slot ∷ slots) h = one (is_same_variable var other) (among-known var others slots h.1)
     where
-      one : (b : Bool) → IsKnownSlot entries (slot_among var others slots) → IsKnownSlot entries (if b then slot else slot_among var others slots)
+      one : (b : Bool) → IsKnownSlot spec entries (slot_among var others slots) → IsKnownSlot spec entries (if b then slot else slot_among var others slots)
       one true k = h.0
       one false k = k
 
-  made-known : (spec : SpecTree) (var : VarRef) (d : Deed) → KeepsKnown entries d → IsKnownSlot entries (slot_made spec var d)
-  made-known spec var (deed.New class slots) h = among-known var (object_variables spec class) slots h
-  made-known spec var (deed.Class class slots) h = among-known var (class_variables spec class) slots h
-  made-known spec var _ h = tt
+  made-known : (var : VarRef) (d : Deed) → KeepsKnown spec entries d → IsKnownSlot spec entries (slot_made spec var d)
+  made-known var (deed.New class slots) h = among-known var (object_variables spec class) slots h
+  made-known var (deed.Class class slots) h = among-known var (class_variables spec class) slots h
+  made-known var _ h = tt
 
-  first-known : (spec : SpecTree) (var : VarRef) (part : List Entry) → AllKnown entries part → IsKnownSlot entries (first_slot spec var part)
-  first-known spec var [] h = tt
-  first-known spec var (e ∷ part) h = made-known spec var e.deed h.0
+  first-known : (var : VarRef) (part : List Entry) → AllKnown spec entries part → IsKnownSlot spec entries (first_slot spec var part)
+  first-known var [] h = tt
+  first-known var (e ∷ part) h = made-known var e.deed h.0
 
-  or-known : (slot : Slot) (written : Option ValueTree) → IsKnownSlot entries slot → IfSome written (IsKnown entries) → IsKnownSlot entries (slot_or slot written)
+  or-known : (slot : Slot) (written : Option ValueTree) → IsKnownSlot spec entries slot → IfSome written (IsKnown spec entries) → IsKnownSlot spec entries (slot_or slot written)
   or-known slot None h k = h
   or-known slot (Some v) h k = k
 
-  pub state-known : (spec : SpecTree) (o : ℕ) (var : VarRef) → AllKnown entries entries → IsKnownSlot entries (state_of spec (object_part o entries) var)
-  state-known spec o var h =
-      let part = each_filter (λ (e : Entry). KeepsKnown entries e.deed) (is_on o) entries h in
+  pub state-known : (o : ℕ) (var : VarRef) → AllKnown spec entries entries → IsKnownSlot spec entries (state_of spec (object_part o entries) var)
+  state-known o var h =
+      let part = each_filter (λ (e : Entry). KeepsKnown spec entries e.deed) (is_on o) entries h in
       or-known (first_slot spec var (object_part o entries)) (last_written var (object_part o entries))
-      (first-known spec var (object_part o entries) part) (last_written-known var (object_part o entries) part)
+      (first-known var (object_part o entries) part) (last_written-known var (object_part o entries) part)

@@ -3,13 +3,13 @@ use Rattle.std.specs.Prelude.{◌≡◌, ◌≢◌, ◌<◌, List, []}
 use Rattle.abstract_syntax.specs.Classes.{SpecTree}
 use Rattle.run_journal.specs.declared.entry.Entry.{Entry}
 use Rattle.run_journal.specs.declared.question.Question.{Question}
-use Rattle.run_journal.specs.declared.question.Question.TheVariants.{Class, New, Req, Act, Fin, Read, Write, End, Fail}
+use Rattle.run_journal.specs.declared.question.Question.TheVariants.{Class, New, Req, Act, Fin, Read, Write, Print, Time, End, Fail}
 use Rattle.run_journal.specs.Parts.{object_part}
 use Rattle.vdm_legal.specs.ClassObjects.{IsClassObject}
 use Rattle.vdm_legal.specs.State.{requests, activations, finishes}
 
 -- A class object is not yet made; every other object is. An operation that is to begin is waiting, and one that is to finish is
--- active.
+-- active. What is printed, and the time, stand on object 0.
 abbrev pub IsReady : SpecTree → List Entry → Question → Type 0
 IsReady spec before (Class object class slots) = (object_part object before ≡ []) × IsClassObject spec object class
 IsReady spec before (New class slots) = Unit {0}
@@ -20,6 +20,8 @@ IsReady spec before (Fin object op) =
     (object_part object before ≢ []) × (finishes op.name (object_part object before) < activations op.name (object_part object before))
 IsReady spec before (Read object var) = object_part object before ≢ []
 IsReady spec before (Write object writes) = object_part object before ≢ []
+IsReady spec before (Print text) = object_part 0 before ≢ []
+IsReady spec before Time = object_part 0 before ≢ []
 IsReady spec before (End slot) = object_part 0 before ≢ []
 IsReady spec before (Fail fault exit place) = object_part 0 before ≢ []
 IsReady spec before _ = ⊥

@@ -1,6 +1,6 @@
 -- What the entries on an object say of it: what its variables hold, and how often its operations were asked for, began and
 -- ended. Each is found in the list of the entries itself.
-use Rattle.std.specs.Prelude.{ℕ, Bool, false, ◌&&◌, if◌then◌else◌, List, [], ◌∷◌, length, filter, Option, Some, None}
+use Rattle.std.specs.Prelude.{ℕ, Bool, true, false, ◌&&◌, if◌then◌else◌, List, [], ◌∷◌, length, filter, map, Option, Some, None}
 use Rattle.vdm_kinds.specs.declared.member.VarRef.{VarRef}
 use Rattle.vdm_kinds.specs.declared.name.Name.{Name}
 use Rattle.vdm_values.specs.declared.slot.Slot.{Slot}
@@ -10,9 +10,10 @@ use Rattle.abstract_syntax.specs.Classes.{SpecTree, is_same_name}
 use Rattle.class_meaning.specs.Classes.{class_number}
 use Rattle.class_meaning.specs.Objects.{layout, statics}
 use Rattle.run_journal.specs.declared.deed.Deed.{Deed}
-use Rattle.run_journal.specs.declared.deed.Deed.TheVariants.{Class, New, Req, Act, Fin, Write}
+use Rattle.run_journal.specs.declared.deed.Deed.TheVariants.{Class, New, Req, Act, Fin, Write, Tick}
 use Rattle.run_journal.specs.declared.entry.Entry.{Entry}
 use Rattle.run_journal.specs.declared.write.Write.{Write as Pair}
+use Rattle.stmt_meaning.specs.Keeping.{Holding, keeps}
 
 -- ---- variables
 
@@ -62,6 +63,11 @@ slot_made spec var (New class slots) = slot_among var (object_variables spec cla
 slot_made spec var (Class class slots) = slot_among var (class_variables spec class) slots
 slot_made spec var _ = Unset
 
+-- the class of which an object was made
+abbrev pub class_made : Deed → Option Name
+class_made (New class slots) = Some class
+class_made _ = None
+
 abbrev pub first_slot : SpecTree → VarRef → List Entry → Slot
 first_slot spec var [] = Unset
 first_slot spec var (entry ∷ entries) = slot_made spec var entry.deed
@@ -74,6 +80,30 @@ slot_or first (Some v) = Held v
 -- what a variable of the object of these entries holds; a variable that it does not have is unset
 abbrev pub state_of : SpecTree → List Entry → VarRef → Slot
 state_of spec entries var = slot_or (first_slot spec var entries) (last_written var entries)
+
+-- ---- invariants
+
+-- the class of an object that was made; a class object has none that counts
+abbrev pub instance_class : List Entry → Option Name
+instance_class [] = None
+instance_class (entry ∷ entries) = class_made entry.deed
+
+-- what a variable holds once these are written
+abbrev pub state_with : SpecTree → List Entry → List Pair → VarRef → Slot
+state_with spec entries writes var = slot_or (state_of spec entries var) (written_in var writes)
+
+-- what the variables of an object of the class hold then
+abbrev pub holding_with : SpecTree → List Entry → List Pair → Name → Holding
+holding_with spec entries writes class = map (λ (var : VarRef). (var, state_with spec entries writes var)) (object_variables spec class)
+
+-- of a class object nothing is to be kept
+abbrev pub kept_in : SpecTree → List Entry → List Pair → Option Name → Bool
+kept_in spec entries writes None = true
+kept_in spec entries writes (Some class) = keeps spec class (holding_with spec entries writes class)
+
+-- whether the invariants of the object of these entries hold once these are written
+abbrev pub keeps_with : SpecTree → List Entry → List Pair → Bool
+keeps_with spec entries writes = kept_in spec entries writes (instance_class entries)
 
 -- ---- counters
 
@@ -102,3 +132,13 @@ activations name = count_of (is_activation name)
 
 abbrev pub finishes : Name → List Entry → ℕ
 finishes name = count_of (is_finish name)
+
+-- ---- the time
+
+abbrev pub is_tick : Deed → Bool
+is_tick Tick = true
+is_tick _ = false
+
+-- how often the clock was moved on
+abbrev pub ticks : List Entry → ℕ
+ticks = count_of is_tick

@@ -14,6 +14,7 @@ pub mod Flows
 pub mod Functions
 pub mod GoingOn
 pub mod Handlers
+pub mod Homes
 pub mod Loops
 pub mod Main
 pub mod Matching
@@ -22,6 +23,7 @@ pub mod Needs
 pub mod Objects
 pub mod OneRun
 pub mod Parts
+pub mod Reading
 pub mod Records
 pub mod Rules
 pub mod RunSteps
@@ -31,5 +33,8 @@ pub mod Strict
 pub mod Targets
 pub mod TaskPlans
 pub mod TestedValues
+pub mod WorkedCalls
 pub mod WorkedCounter
+pub mod WorkedInvariants
+pub mod WorkedPrints
 pub mod WorkedSums

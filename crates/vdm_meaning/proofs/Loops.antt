@@ -25,10 +25,10 @@ use Rattle.vdm_meaning.proofs.Flows.{safe-unless_ended, safe-unless_ended_cut}
 -- ---- rounds
 
 module _ (spec : SpecTree) (first : List Entry) (here : Here) where
-  pub safe-while_round : (now : List Entry) (condition : ExprTree) (body : StmtTree) (place : Place) (locals : Locals) → IsAt first now here locals → IsSafe spec first now (while_round here condition body place locals)
+  pub safe-while_round : (now : List Entry) (condition : ExprTree) (body : StmtTree) (place : Place) (locals : Locals) → IsAt spec first now here locals → IsSafe spec first now (while_round here condition body place locals)
   safe-while_round now condition body place locals is_at = safe-become_task spec (round_in (at here locals) [] (while_true condition body place)) is_at is_at.may
 
-  pub safe-while_decided : (now : List Entry) (condition : ExprTree) (body : StmtTree) (place : Place) (b : Bool) (locals : Locals) → IsAt first now here locals → IsSafe spec first now (while_decided here condition body place b locals)
+  pub safe-while_decided : (now : List Entry) (condition : ExprTree) (body : StmtTree) (place : Place) (b : Bool) (locals : Locals) → IsAt spec first now here locals → IsSafe spec first now (while_decided here condition body place b locals)
   safe-while_decided now condition body place true locals is_at = (
     is_at.may,
     λ later flow w leaves.
@@ -37,7 +37,7 @@ module _ (spec : SpecTree) (first : List Entry) (here : Here) where
   )
   safe-while_decided now condition body place false locals is_at = safe-finish spec (next locals) is_at is_at.may.known
 
-  safe-rounds : (now : List Entry) (counting : Counting) (locals : Locals) → IsAt first now here locals → IsSafe spec first now (rounds_from here counting locals)
+  safe-rounds : (now : List Entry) (counting : Counting) (locals : Locals) → IsAt spec first now here locals → IsSafe spec first now (rounds_from here counting locals)
   safe-rounds now counting locals is_at =
       let inner : Locals = locals ++ (counting.name, Held (number counting.at)) ∷ [] in
       let at_inner = at-more is_at counting.name (Held (number counting.at)) tt in
@@ -45,7 +45,7 @@ module _ (spec : SpecTree) (first : List Entry) (here : Here) where
       (safe-finish spec (next locals) is_at is_at.may.known)
       (safe-become_task spec (round_in (at here inner) [] (counts counting)) at_inner at_inner.may)
 
-  pub safe-counted : (now : List Entry) (locals : Locals) (counting : Counting) (flow : Flow) → IsAt first now here locals → GivesKnown now flow → IsSafe spec first now (counted here counting flow)
+  pub safe-counted : (now : List Entry) (locals : Locals) (counting : Counting) (flow : Flow) → IsAt spec first now here locals → GivesKnown spec now flow → IsSafe spec first now (counted here counting flow)
   safe-counted now locals counting flow is_at known =
       safe-unless_ended_cut spec first here now locals counting.count (rounds_from here (next_number counting)) flow is_at known (λ later after w at_later.
       safe-rounds later (next_number counting) after at_later)
@@ -53,29 +53,29 @@ module _ (spec : SpecTree) (first : List Entry) (here : Here) where
 -- ---- the numbers of a loop
 
 module _ (spec : SpecTree) (first : List Entry) (here : Here) (place : Place) where
-  safe-on_number : {now : List Entry} {locals : Locals} (further : ℤ → Locals → Code) (v : ValueTree) → IsAt first now here locals → ((z : ℤ) → IsSafe spec first now (further z locals)) → IsSafe spec first now (on_number place further v locals)
+  safe-on_number : {now : List Entry} {locals : Locals} (further : ℤ → Locals → Code) (v : ValueTree) → IsAt spec first now here locals → ((z : ℤ) → IsSafe spec first now (further z locals)) → IsSafe spec first now (on_number place further v locals)
   safe-on_number further (number z) is_at goes = goes z
   safe-on_number further v is_at goes = may-fail spec TypeFault place is_at.may
 
   -- an expression whose value has to be a number
-  pub safe-numbered : (now : List Entry) (locals : Locals) (tree : ExprTree) (further : ℤ → Locals → Code) → IsAt first now here locals → ((later : List Entry) (z : ℤ) (after : Locals) → IsAt first later here after → IsSafe spec first later (further z after)) → IsSafe spec first now (evaluated here locals tree place (on_number place further))
+  pub safe-numbered : (now : List Entry) (locals : Locals) (tree : ExprTree) (further : ℤ → Locals → Code) → IsAt spec first now here locals → ((later : List Entry) (z : ℤ) (after : Locals) → IsAt spec first later here after → IsSafe spec first later (further z after)) → IsSafe spec first now (evaluated here locals tree place (on_number place further))
   safe-numbered now locals tree further is_at goes =
       safe-evaluated spec first now here locals tree place (on_number place further) is_at (λ later v after w at_later known.
       safe-on_number further v at_later (λ z. goes later z after at_later))
 
   module _ (name : Name) (body : StmtTree) where
-    safe-counts_by : (now : List Entry) (from last step : ℤ) (locals : Locals) → IsAt first now here locals → IsSafe spec first now (counts_by here name body place from last step locals)
+    safe-counts_by : (now : List Entry) (from last step : ℤ) (locals : Locals) → IsAt spec first now here locals → IsSafe spec first now (counts_by here name body place from last step locals)
     safe-counts_by now from last (pos zero) locals is_at = may-fail spec TypeFault place is_at.may
     safe-counts_by now from last step locals is_at =
         safe-rounds spec first here now (record { name = name; count = length locals; at = from; step = step; last = last; body = body }) locals is_at
 
-    safe-counts_to : (now : List Entry) (by : Option ExprTree) (from last : ℤ) (locals : Locals) → IsAt first now here locals → IsSafe spec first now (counts_to here name by body place from last locals)
+    safe-counts_to : (now : List Entry) (by : Option ExprTree) (from last : ℤ) (locals : Locals) → IsAt spec first now here locals → IsSafe spec first now (counts_to here name by body place from last locals)
     safe-counts_to now None from last locals is_at = safe-counts_by now from last (pos 1) locals is_at
     safe-counts_to now (Some by) from last locals is_at =
         safe-numbered now locals by (counts_by here name body place from last) is_at (λ later step after at_later.
         safe-counts_by later from last step after at_later)
 
-    pub safe-counts_on : (now : List Entry) (last : ExprTree) (by : Option ExprTree) (from : ℤ) (locals : Locals) → IsAt first now here locals → IsSafe spec first now (counts_on here name last by body place from locals)
+    pub safe-counts_on : (now : List Entry) (last : ExprTree) (by : Option ExprTree) (from : ℤ) (locals : Locals) → IsAt spec first now here locals → IsSafe spec first now (counts_on here name last by body place from locals)
     safe-counts_on now last by from locals is_at =
         safe-numbered now locals last (counts_to here name by body place from) is_at (λ later z after at_later.
         safe-counts_to later by from z after at_later)
@@ -83,7 +83,7 @@ module _ (spec : SpecTree) (first : List Entry) (here : Here) (place : Place) wh
 -- ---- the elements of a set or a sequence
 
 module _ (spec : SpecTree) (first : List Entry) (here : Here) (place : Place) (pattern : PatternTree) (body : StmtTree) where
-  safe-element_round : (now : List Entry) (count : ℕ) (others : Locals → Code) (locals : Locals) → IsAt first now here locals → Goes spec first here now others → IsSafe spec first now (element_round here count body others locals)
+  safe-element_round : (now : List Entry) (count : ℕ) (others : Locals → Code) (locals : Locals) → IsAt spec first now here locals → Goes spec first here now others → IsSafe spec first now (element_round here count body others locals)
   safe-element_round now count others locals is_at goes = (
     is_at.may,
     λ later flow w leaves.
@@ -91,7 +91,7 @@ module _ (spec : SpecTree) (first : List Entry) (here : Here) (place : Place) (p
         (λ end after x at_end. goes end after (within-then now later end w x) at_end),
   )
 
-  safe-each_element : (vs : List ValueTree) (now : List Entry) (count : ℕ) (locals : Locals) → IsAt first now here locals → EachKnown now vs → IsSafe spec first now (each_element spec here place pattern body count vs locals)
+  safe-each_element : (vs : List ValueTree) (now : List Entry) (count : ℕ) (locals : Locals) → IsAt spec first now here locals → EachKnown spec now vs → IsSafe spec first now (each_element spec here place pattern body count vs locals)
   safe-each_element [] now count locals is_at known = safe-finish spec (next locals) is_at is_at.may.known
   safe-each_element (v ∷ vs) now count locals is_at known =
       let others = each_element spec here place pattern body count vs in
@@ -101,10 +101,10 @@ module _ (spec : SpecTree) (first : List Entry) (here : Here) (place : Place) (p
       safe-each_element vs end count inner at_end (values-on now end (within-then now later end w x) vs known.1)))
       (λ later after w at_later. safe-each_element vs later count after at_later (values-on now later w vs known.1))
 
-  pub safe-each_of_set : (now : List Entry) (v : ValueTree) (locals : Locals) → IsAt first now here locals → IsKnown now v → IsSafe spec first now (each_of_set spec here place pattern body v locals)
-  safe-each_of_set now (set_of vs) locals is_at known = safe-each_element (value_list vs) now (length locals) locals is_at (listed (IsThere now) vs known)
+  pub safe-each_of_set : (now : List Entry) (v : ValueTree) (locals : Locals) → IsAt spec first now here locals → IsKnown spec now v → IsSafe spec first now (each_of_set spec here place pattern body v locals)
+  safe-each_of_set now (set_of vs) locals is_at known = safe-each_element (value_list vs) now (length locals) locals is_at (listed (IsThere spec now) vs known)
   safe-each_of_set now v locals is_at known = may-fail spec TypeFault place is_at.may
 
-  pub safe-each_of_sequence : (now : List Entry) (v : ValueTree) (locals : Locals) → IsAt first now here locals → IsKnown now v → IsSafe spec first now (each_of_sequence spec here place pattern body v locals)
-  safe-each_of_sequence now (sequence_of vs) locals is_at known = safe-each_element (value_list vs) now (length locals) locals is_at (listed (IsThere now) vs known)
+  pub safe-each_of_sequence : (now : List Entry) (v : ValueTree) (locals : Locals) → IsAt spec first now here locals → IsKnown spec now v → IsSafe spec first now (each_of_sequence spec here place pattern body v locals)
+  safe-each_of_sequence now (sequence_of vs) locals is_at known = safe-each_element (value_list vs) now (length locals) locals is_at (listed (IsThere spec now) vs known)
   safe-each_of_sequence now v locals is_at known = may-fail spec TypeFault place is_at.may

@@ -27,11 +27,11 @@ use Rattle.vdm_meaning.proofs.Strict.{safe-collected}
 
 -- ---- what is bound
 
-bound-known : (now : List Entry) (binding : Binding) → EachObjectBound (IsThere now) binding → AreKnown now (bound_locals binding)
-bound-known now binding h = each_map (λ (p : Name × ValueTree). IsKnown now p.1) (λ (l : Name × Slot). IsKnownSlot now l.1) (λ p. (p.0, Holds p.1)) (λ p k. k) binding h
+bound-known : (spec : SpecTree) (now : List Entry) (binding : Binding) → EachObjectBound (IsThere spec now) binding → AreKnown spec now (bound_locals binding)
+bound-known spec now binding h = each_map (λ (p : Name × ValueTree). IsKnown spec now p.1) (λ (l : Name × Slot). IsKnownSlot spec now l.1) (λ p. (p.0, Holds p.1)) (λ p k. k) binding h
 
-pub match-known : (spec : SpecTree) (now : List Entry) (scope : Option Name) (patterns : List PatternTree) (given vs : List ValueTree) → EachKnown now vs → IfSome (first_match spec scope patterns given vs) (EachObjectBound (IsThere now))
-match-known spec now scope patterns given vs known = binding_of_list_keeps (IsThere now) (stands_for (finder spec) (type_rank spec) (type_scope scope)) patterns given vs known
+pub match-known : (spec : SpecTree) (now : List Entry) (scope : Option Name) (patterns : List PatternTree) (given vs : List ValueTree) → EachKnown spec now vs → IfSome (first_match spec scope patterns given vs) (EachObjectBound (IsThere spec now))
+match-known spec now scope patterns given vs known = binding_of_list_keeps (IsThere spec now) (stands_for (finder spec) (type_rank spec) (type_scope scope)) patterns given vs known
 
 -- ---- plans
 
@@ -42,11 +42,11 @@ IsAny entries b = Unit {0}
 module _ (spec : SpecTree) where
   -- ---- conditions
 
-  pub safe-on_truth : {first now : List Entry} {here : Here} {locals : Locals} (place : Place) (further : Bool → Locals → Code) (v : ValueTree) → IsAt first now here locals → ((b : Bool) → IsSafe spec first now (further b locals)) → IsSafe spec first now (on_truth place further v locals)
+  pub safe-on_truth : {first now : List Entry} {here : Here} {locals : Locals} (place : Place) (further : Bool → Locals → Code) (v : ValueTree) → IsAt spec first now here locals → ((b : Bool) → IsSafe spec first now (further b locals)) → IsSafe spec first now (on_truth place further v locals)
   safe-on_truth place further (boolean b) is_at h = h b
   safe-on_truth place further v is_at h = may-fail spec TypeFault place is_at.may
 
-  pub safe-decided : (first now : List Entry) (here : Here) (locals : Locals) (condition : ExprTree) (place : Place) (further : Bool → Locals → Code) → IsAt first now here locals → GoesWith IsAny spec first here now further → IsSafe spec first now (decided here locals condition place further)
+  pub safe-decided : (first now : List Entry) (here : Here) (locals : Locals) (condition : ExprTree) (place : Place) (further : Bool → Locals → Code) → IsAt spec first now here locals → GoesWith IsAny spec first here now further → IsSafe spec first now (decided here locals condition place further)
   safe-decided first now here locals condition place further is_at goes =
       safe-evaluated spec first now here locals condition place (on_truth place further) is_at (λ later v after w at_later known.
       safe-on_truth place further v at_later (λ b. goes later b after w at_later tt))
@@ -54,17 +54,17 @@ module _ (spec : SpecTree) where
   -- ---- patterns
 
   -- where the patterns match, and where they do not
-  pub safe-bound_or : (first now : List Entry) (here : Here) (place : Place) (binding : Option Binding) (matched missed : Locals → Code) (locals : Locals) → IsAt first now here locals → IfSome binding (EachObjectBound (IsThere now)) → Goes spec first here now matched → Goes spec first here now missed → IsSafe spec first now (bound_or place binding matched missed locals)
+  pub safe-bound_or : (first now : List Entry) (here : Here) (place : Place) (binding : Option Binding) (matched missed : Locals → Code) (locals : Locals) → IsAt spec first now here locals → IfSome binding (EachObjectBound (IsThere spec now)) → Goes spec first here now matched → Goes spec first here now missed → IsSafe spec first now (bound_or place binding matched missed locals)
   safe-bound_or first now here place None matched missed locals is_at known goes otherwise = otherwise now locals (within-self now) is_at
   safe-bound_or first now here place (Some binding) matched missed locals is_at known goes otherwise =
       safe-if spec first now (are_within_limits binding) (matched (locals ++ bound_locals binding)) (fault SizeLimit place)
       (goes now (locals ++ bound_locals binding) (within-self now)
       (at-among is_at (locals ++ bound_locals binding)
-      (each_append (λ (l : Name × Slot). IsKnownSlot now l.1) locals (bound_locals binding) is_at.may.known (bound-known now binding known))))
+      (each_append (λ (l : Name × Slot). IsKnownSlot spec now l.1) locals (bound_locals binding) is_at.may.known (bound-known spec now binding known))))
       (may-fail spec SizeLimit place is_at.may)
 
   -- one pattern and one value
-  pub safe-meets : (first now : List Entry) (here : Here) (place : Place) (pattern : PatternTree) (matched missed : Locals → Code) (v : ValueTree) (locals : Locals) → IsAt first now here locals → IsKnown now v → Goes spec first here now matched → Goes spec first here now missed → IsSafe spec first now (meets spec here place pattern matched missed v locals)
+  pub safe-meets : (first now : List Entry) (here : Here) (place : Place) (pattern : PatternTree) (matched missed : Locals → Code) (v : ValueTree) (locals : Locals) → IsAt spec first now here locals → IsKnown spec now v → Goes spec first here now matched → Goes spec first here now missed → IsSafe spec first now (meets spec here place pattern matched missed v locals)
   safe-meets first now here place pattern matched missed v locals is_at known goes otherwise =
       safe-collected spec first now here place (exprs_of (given_in pattern)) [] (met spec here.scope place (pattern ∷ []) (v ∷ []) matched missed) locals is_at tt (λ later given after w at_later also.
       safe-bound_or first later here place (first_match spec here.scope (pattern ∷ []) given (v ∷ [])) matched missed after at_later

@@ -69,7 +69,7 @@ module _ (P : ℕ → Name → Type 0) where
 -- ---- plans
 
 module _ (spec : SpecTree) (first : List Entry) (here : Here) (place : Place) where
-  safe-fields_typed : (fields : List FieldTree) (vs : List ValueTree) (now : List Entry) (nest : Nest) (class : Name) (further : Locals → Code) (locals : Locals) → IsAt first now here locals → EachKnown now vs → Goes spec first here now further → IsSafe spec first now (fields_typed spec nest class place fields vs further locals)
+  safe-fields_typed : (fields : List FieldTree) (vs : List ValueTree) (now : List Entry) (nest : Nest) (class : Name) (further : Locals → Code) (locals : Locals) → IsAt spec first now here locals → EachKnown spec now vs → Goes spec first here now further → IsSafe spec first now (fields_typed spec nest class place fields vs further locals)
   safe-fields_typed [] [] now nest class further locals is_at known goes = goes now locals (within-self now) is_at
   safe-fields_typed (field ∷ fields) (v ∷ vs) now nest class further locals is_at known goes =
       safe-typed spec first here now locals nest (Some class) field.declared place (λ fitting_v after. fields_typed spec nest class place fields vs further after) v is_at known.0 (λ later w after x at_later also.
@@ -77,31 +77,31 @@ module _ (spec : SpecTree) (first : List Entry) (here : Here) (place : Place) wh
       (λ end others y. goes end others (within-then now later end x y)))
   safe-fields_typed _ _ now nest class further locals is_at known goes = may-fail spec TypeFault place is_at.may
 
-  safe-record_value : (now : List Entry) (class name : Name) (vs : List ValueTree) (locals : Locals) → IsAt first now here locals → EachKnown now vs → IsSafe spec first now (record_value class name place vs locals)
+  safe-record_value : (now : List Entry) (class name : Name) (vs : List ValueTree) (locals : Locals) → IsAt spec first now here locals → EachKnown spec now vs → IsSafe spec first now (record_value class name place vs locals)
   safe-record_value now class name vs locals is_at known =
       safe-value_or_fault spec place (sized (record_of class name (value_trees vs))) is_at
-      (sized_keeps (IsThere now) (record_of class name (value_trees vs)) (gathered (IsThere now) vs known))
+      (sized_keeps (IsThere spec now) (record_of class name (value_trees vs)) (gathered (IsThere spec now) vs known))
 
-  safe-record_with : (now : List Entry) (nest : Nest) (class name : Name) (fields : Option (List FieldTree)) (vs : List ValueTree) (locals : Locals) → IsAt first now here locals → EachKnown now vs → IsSafe spec first now (record_with spec nest class name place fields vs locals)
+  safe-record_with : (now : List Entry) (nest : Nest) (class name : Name) (fields : Option (List FieldTree)) (vs : List ValueTree) (locals : Locals) → IsAt spec first now here locals → EachKnown spec now vs → IsSafe spec first now (record_with spec nest class name place fields vs locals)
   safe-record_with now nest class name None vs locals is_at known = may-fail spec Undefined place is_at.may
   safe-record_with now nest class name (Some fields) vs locals is_at known =
       safe-fields_typed fields vs now nest class (record_value class name place vs) locals is_at known (λ later after w at_later.
       safe-record_value later class name vs after at_later (values-on now later w vs known))
 
-  pub safe-record_of_type : (now : List Entry) (nest : Nest) (found : Option RecordType) (vs : List ValueTree) (locals : Locals) → IsAt first now here locals → EachKnown now vs → IsSafe spec first now (record_of_type spec nest place found vs locals)
+  pub safe-record_of_type : (now : List Entry) (nest : Nest) (found : Option RecordType) (vs : List ValueTree) (locals : Locals) → IsAt spec first now here locals → EachKnown spec now vs → IsSafe spec first now (record_of_type spec nest place found vs locals)
   safe-record_of_type now nest None vs locals is_at known = may-fail spec Undefined place is_at.may
   safe-record_of_type now nest (Some r) vs locals is_at known = safe-record_with now nest r.class r.name (fields_of spec r.class r.name) vs locals is_at known
 
-  safe-tested_again : (now : List Entry) (nest : Nest) (class type : Name) (fields : List FieldTree) (found : Option (List ValueTree)) (locals : Locals) → IsAt first now here locals → IfSome found (EachKnown now) → IsSafe spec first now (tested_again spec nest class type place fields found locals)
+  safe-tested_again : (now : List Entry) (nest : Nest) (class type : Name) (fields : List FieldTree) (found : Option (List ValueTree)) (locals : Locals) → IsAt spec first now here locals → IfSome found (EachKnown spec now) → IsSafe spec first now (tested_again spec nest class type place fields found locals)
   safe-tested_again now nest class type fields None locals is_at known = may-fail spec TypeFault place is_at.may
   safe-tested_again now nest class type fields (Some vs) locals is_at known = safe-record_with now nest class type (Some fields) vs locals is_at known
 
-  safe-changed_record : (now : List Entry) (nest : Nest) (class type : Name) (fields : Option (List FieldTree)) (names : List Name) (vs ws : List ValueTree) (locals : Locals) → IsAt first now here locals → EachKnown now vs → EachKnown now ws → IsSafe spec first now (changed_record spec nest class type place fields names vs ws locals)
+  safe-changed_record : (now : List Entry) (nest : Nest) (class type : Name) (fields : Option (List FieldTree)) (names : List Name) (vs ws : List ValueTree) (locals : Locals) → IsAt spec first now here locals → EachKnown spec now vs → EachKnown spec now ws → IsSafe spec first now (changed_record spec nest class type place fields names vs ws locals)
   safe-changed_record now nest class type None names vs ws locals is_at known others = may-fail spec TypeFault place is_at.may
   safe-changed_record now nest class type (Some fields) names vs ws locals is_at known others =
-      safe-tested_again now nest class type fields (with_fields_named fields names vs ws) locals is_at (with_fields_named_keeps (IsThere now) fields names vs ws known others)
+      safe-tested_again now nest class type fields (with_fields_named fields names vs ws) locals is_at (with_fields_named_keeps (IsThere spec now) fields names vs ws known others)
 
-  pub safe-record_changed : (now : List Entry) (nest : Nest) (names : List Name) (vs : List ValueTree) (locals : Locals) → IsAt first now here locals → EachKnown now vs → IsSafe spec first now (record_changed spec nest names place vs locals)
+  pub safe-record_changed : (now : List Entry) (nest : Nest) (names : List Name) (vs : List ValueTree) (locals : Locals) → IsAt spec first now here locals → EachKnown spec now vs → IsSafe spec first now (record_changed spec nest names place vs locals)
   safe-record_changed now nest names (record_of class type values ∷ vs) locals is_at known =
-      safe-changed_record now nest class type (fields_of spec class type) names vs (value_list values) locals is_at known.1 (listed (IsThere now) values known.0)
+      safe-changed_record now nest class type (fields_of spec class type) names vs (value_list values) locals is_at known.1 (listed (IsThere spec now) values known.0)
   safe-record_changed now nest names _ locals is_at known = may-fail spec TypeFault place is_at.may

@@ -2,9 +2,11 @@
 use Rattle.std.proofs.Common.{◌≡◌, ℕ, List, [], ◌∷◌, ◌++◌, None, Some, refl, sym, ap, ◌∙◌, subst, append_assoc, append-nil}
 use Rattle.abstract_syntax.specs.Classes.{SpecTree}
 use Rattle.abstract_syntax.specs.Expressions.{ExprTree}
+use Rattle.report_texts.specs.Printing.{printed_text}
 use Rattle.run_journal.specs.declared.answer.Answer.{Answer}
 use Rattle.run_journal.specs.declared.entry.Entry.{Entry}
 use Rattle.run_journal.specs.declared.question.Question.{Question}
+use Rattle.run_journal.specs.declared.question.Question.TheVariants.{Print}
 use Rattle.run_journal.specs.declared.thread.Thread.TheVariants.{Main}
 use Rattle.run_journal.specs.Made.{answer_of, made}
 use Rattle.plans.specs.Plans.{Outcome, needs, run, meaning}
@@ -15,8 +17,8 @@ use Rattle.vdm_legal.proofs.Journals.{main_answers, made-back}
 use Rattle.vdm_legal.proofs.Taken.{legal-entry}
 use Rattle.node_meaning.specs.Faults.{Fault}
 use Rattle.stmt_meaning.specs.TaskPlans.{plan_of}
-use Rattle.node_meaning.specs.Tasks.{Flow, Query, noted, needed, spent}
-use Rattle.vdm_meaning.specs.Main.{asks, over, standing_of, main_plan}
+use Rattle.node_meaning.specs.Tasks.{Flow, Query, noted, printing, needed, spent}
+use Rattle.vdm_meaning.specs.Main.{asks, over, standing_of, main_code, main_plan}
 use Rattle.stmt_meaning.specs.Questions.{of_thread}
 use Rattle.vdm_meaning.specs.Runs.{IsLegal, AreLegal, IsRun}
 use Rattle.vdm_meaning.proofs.Main.{LeavesAnEnd, safe-main}
@@ -71,20 +73,20 @@ abbrev pub IsMainSound : SpecTree → ExprTree → ℕ → List Entry → Outcom
 IsMainSound spec tree units entries o =
     SoundBy (rules spec) LeavesAnEnd (MayHaveAsked None None units) [] [] (steps_of [] entries) (main_outcome spec tree units) o
 
-module _ (spec : SpecTree) (tree : ExprTree) (units : ℕ) where
-  answers-steps : (before entries : List Entry) → AreLegal spec tree units before entries → main_answers before ++ answers (steps_of before entries) ≡ main_answers (before ++ entries)
+module _ (names : List (List ℕ)) (spec : SpecTree) (tree : ExprTree) (units : ℕ) where
+  answers-steps : (before entries : List Entry) → AreLegal names spec tree units before entries → main_answers before ++ answers (steps_of before entries) ≡ main_answers (before ++ entries)
   answers-steps before [] h = append-nil (main_answers before) ∙ ap main_answers (sym (append-nil before))
   answers-steps before (e ∷ entries) h =
       sym (append_assoc (main_answers before) (answer_of e ∷ []) (answers (steps_of (before ++ e ∷ []) entries)))
-      ∙ ap (λ bs. bs ++ answers (steps_of (before ++ e ∷ []) entries)) (sym (main_answers-behind before [] e (legal-main spec tree units before e h.0)))
+      ∙ ap (λ bs. bs ++ answers (steps_of (before ++ e ∷ []) entries)) (sym (main_answers-behind before [] e (legal-main names spec tree units before e h.0)))
       ∙ answers-steps (before ++ e ∷ []) entries h.1
       ∙ ap main_answers (append_assoc before (e ∷ []) entries)
 
-  taken-legal : (before : List Entry) (e : Entry) (q : Question) → IsLegal spec tree units before e → main_outcome spec tree units (main_answers before) ≡ needs (noted q) → IsTaken spec before q (answer_of e) (before ++ e ∷ [])
+  taken-legal : (before : List Entry) (e : Entry) (q : Question) → IsLegal names spec tree units before e → main_code names spec tree units (main_answers before) ≡ asks q → IsTaken spec before q (answer_of e) (before ++ e ∷ [])
   taken-legal before e q h needs_it =
-      let legal = legal-for_main spec tree units before e h in
+      let legal = legal-for_main names spec tree units before e h in
       let back = made-back legal.question legal.answer e legal.made_of in
-      let asked : asks q ≡ asks legal.question = sym (ap standing_of needs_it) ∙ legal.asked in
+      let asked : asks q ≡ asks legal.question = sym needs_it ∙ legal.asked in
       let same : legal.question ≡ q = cc in
       record {
         taken = e;
@@ -93,27 +95,31 @@ module _ (spec : SpecTree) (tree : ExprTree) (units : ℕ) where
       }
 
   -- what is answered is a question, and no need as such
-  answered-legal : (before : List Entry) (e : Entry) (q : Query) → IsLegal spec tree units before e → main_outcome spec tree units (main_answers before) ≡ needs q → IsAnswered spec before q (answer_of e) (before ++ e ∷ [])
-  answered-legal before e (noted q) h needs_it = taken-legal before e q h needs_it
+  answered-legal : (before : List Entry) (e : Entry) (q : Query) → IsLegal names spec tree units before e → main_outcome spec tree units (main_answers before) ≡ needs q → IsAnswered spec before q (answer_of e) (before ++ e ∷ [])
+  answered-legal before e (noted q) h needs_it = taken-legal before e q h (ap (standing_of names) needs_it)
+  answered-legal before e (printing vs) h needs_it = (
+    printed_text names vs,
+    taken-legal before e (Print (printed_text names vs)) h (ap (standing_of names) needs_it),
+  )
   answered-legal before e (needed need) h needs_it =
-      let legal = legal-for_main spec tree units before e h in
-      let never : over ≡ asks legal.question = sym (ap standing_of needs_it) ∙ legal.asked in
+      let legal = legal-for_main names spec tree units before e h in
+      let never : over ≡ asks legal.question = sym (ap (standing_of names) needs_it) ∙ legal.asked in
       absurd (cc)
 
-  plays : (before entries : List Entry) → AreLegal spec tree units before entries → Plays (rules spec) (λ bs. main_outcome spec tree units (main_answers before ++ bs)) before (steps_of before entries)
+  plays : (before entries : List Entry) → AreLegal names spec tree units before entries → Plays (rules spec) (λ bs. main_outcome spec tree units (main_answers before ++ bs)) before (steps_of before entries)
   plays before [] h = tt
   plays before (e ∷ entries) h = (
     λ q needs_it. answered-legal before e q h.0 (ap (main_outcome spec tree units) (sym (append-nil (main_answers before))) ∙ needs_it),
     plays-same (rules spec) (λ bs. main_outcome spec tree units (main_answers (before ++ e ∷ []) ++ bs)) (λ bs. main_outcome spec tree units (main_answers before ++ answer_of e ∷ bs))
-        (λ bs. ap (main_outcome spec tree units) (ap (λ front. front ++ bs) (main_answers-behind before [] e (legal-main spec tree units before e h.0)) ∙ append_assoc (main_answers before) (answer_of e ∷ []) bs))
+        (λ bs. ap (main_outcome spec tree units) (ap (λ front. front ++ bs) (main_answers-behind before [] e (legal-main names spec tree units before e h.0)) ∙ append_assoc (main_answers before) (answer_of e ∷ []) bs))
         (before ++ e ∷ []) (steps_of (before ++ e ∷ []) entries) (plays (before ++ e ∷ []) entries h.1),
   )
 
-  pub run-answers : (entries : List Entry) → IsRun spec tree units entries → answers (steps_of [] entries) ≡ main_answers entries
+  pub run-answers : (entries : List Entry) → IsRun names spec tree units entries → answers (steps_of [] entries) ≡ main_answers entries
   run-answers entries h = answers-steps [] entries h
 
   -- what main comes to behind a run is sound after its steps
-  pub run-sound : (entries : List Entry) → IsRun spec tree units entries → IsMainSound spec tree units entries (main_outcome spec tree units (main_answers entries))
+  pub run-sound : (entries : List Entry) → IsRun names spec tree units entries → IsMainSound spec tree units entries (main_outcome spec tree units (main_answers entries))
   run-sound entries h =
       subst (λ bs. IsMainSound spec tree units entries (main_outcome spec tree units bs)) (run-answers entries h)
       (sound (rules spec) (plan_of (of_thread spec)) spent (tasks-keep spec) (main_plan spec tree) LeavesAnEnd None [] [] (safe-main spec tree) units (steps_of [] entries) (plays [] entries h))

@@ -25,13 +25,13 @@ use Rattle.vdm_meaning.proofs.Handlers.{safe-caught_in, safe-trapped}
 use Rattle.vdm_meaning.proofs.Loops.{safe-counts_on, safe-each_of_sequence, safe-each_of_set, safe-numbered, safe-while_round}
 
 module _ (spec : SpecTree) (first : List Entry) (here : Here) where
-  safe-returned_of : (now : List Entry) (tree : Option ExprTree) (place : Place) (locals : Locals) → IsAt first now here locals → IsSafe spec first now (returned_of here tree place locals)
+  safe-returned_of : (now : List Entry) (tree : Option ExprTree) (place : Place) (locals : Locals) → IsAt spec first now here locals → IsSafe spec first now (returned_of here tree place locals)
   safe-returned_of now None place locals is_at = safe-finish spec (returned Unset locals) is_at (tt, is_at.may.known)
   safe-returned_of now (Some tree) place locals is_at =
       safe-evaluated spec first now here locals tree place return_value is_at (λ later v after w at_later known.
       safe-finish spec (returned (Held v) after) at_later (known, at_later.may.known))
 
-  safe-exit_of : (now : List Entry) (tree : Option ExprTree) (place : Place) (locals : Locals) → IsAt first now here locals → IsSafe spec first now (exit_of here tree place locals)
+  safe-exit_of : (now : List Entry) (tree : Option ExprTree) (place : Place) (locals : Locals) → IsAt spec first now here locals → IsSafe spec first now (exit_of here tree place locals)
   safe-exit_of now None place locals is_at = safe-finish spec (exited nil place locals) is_at (tt, is_at.may.known)
   safe-exit_of now (Some tree) place locals is_at =
       safe-evaluated spec first now here locals tree place (exit_value place) is_at (λ later v after w at_later known.
@@ -39,11 +39,11 @@ module _ (spec : SpecTree) (first : List Entry) (here : Here) where
 
   -- ---- branches
 
-  safe-branch_taken : (now : List Entry) (statement : StmtTree) (others : Locals → Code) (b : Bool) (locals : Locals) → IsAt first now here locals → Goes spec first here now others → IsSafe spec first now (branch_taken here statement others b locals)
+  safe-branch_taken : (now : List Entry) (statement : StmtTree) (others : Locals → Code) (b : Bool) (locals : Locals) → IsAt spec first now here locals → Goes spec first here now others → IsSafe spec first now (branch_taken here statement others b locals)
   safe-branch_taken now statement others true locals is_at goes = safe-in_place spec first here statement is_at
   safe-branch_taken now statement others false locals is_at goes = goes now locals (within-self now) is_at
 
-  safe-branches : (branches : StmtBranches) (now : List Entry) (place : Place) (otherwise : MaybeStmt) (locals : Locals) → IsAt first now here locals → IsSafe spec first now (branches_of here place branches otherwise locals)
+  safe-branches : (branches : StmtBranches) (now : List Entry) (place : Place) (otherwise : MaybeStmt) (locals : Locals) → IsAt spec first now here locals → IsSafe spec first now (branches_of here place branches otherwise locals)
   safe-branches no_stmt_branches now place otherwise locals is_at = safe-otherwise_of spec first here now otherwise locals is_at
   safe-branches (one_stmt_branch condition statement more) now place otherwise locals is_at =
       safe-decided spec first now here locals condition place (branch_taken here statement (branches_of here place more otherwise)) is_at (λ later b after w at_later any.
@@ -51,18 +51,18 @@ module _ (spec : SpecTree) (first : List Entry) (here : Here) where
 
   -- ---- threads
 
-  safe-started : (now : List Entry) (place : Place) (v : ValueTree) (locals : Locals) → IsAt first now here locals → IsSafe spec first now (started place v locals)
+  safe-started : (now : List Entry) (place : Place) (v : ValueTree) (locals : Locals) → IsAt spec first now here locals → IsSafe spec first now (started place v locals)
   safe-started now place (object n class) locals is_at = may-fail spec NoThread place is_at.may
   safe-started now place v locals is_at = may-fail spec TypeFault place is_at.may
 
-  safe-all_started : (now : List Entry) (place : Place) (v : ValueTree) (locals : Locals) → IsAt first now here locals → IsSafe spec first now (all_started place v locals)
+  safe-all_started : (now : List Entry) (place : Place) (v : ValueTree) (locals : Locals) → IsAt spec first now here locals → IsSafe spec first now (all_started place v locals)
   safe-all_started now place (set_of no_values) locals is_at = safe-finish spec (next locals) is_at is_at.may.known
   safe-all_started now place (set_of (one_value v vs)) locals is_at = safe-started now place v locals is_at
   safe-all_started now place v locals is_at = may-fail spec TypeFault place is_at.may
 
   -- ---- all statements
 
-  pub safe-statement : (now : List Entry) (declared : Declared) (locals : Locals) (statement : StmtTree) → IsAt first now here locals → IsSafe spec first now (stmt_plan spec here declared locals statement)
+  pub safe-statement : (now : List Entry) (declared : Declared) (locals : Locals) (statement : StmtTree) → IsAt spec first now here locals → IsSafe spec first now (stmt_plan spec here declared locals statement)
   safe-statement now declared locals (block dcls statements place) is_at = safe-block_of spec first here now dcls statements locals is_at
   safe-statement now declared locals (assign target tree place) is_at = safe-assign spec first here place now declared target tree locals is_at
   safe-statement now declared locals (assign_together assignments place) is_at = safe-together spec first here place assignments now None [] locals is_at tt tt

@@ -77,21 +77,21 @@ module _ (P : ℕ → Name → Type 0) where
 -- ---- plans
 
 module _ (spec : SpecTree) where
-  pub safe-value_or_fault : {first now : List Entry} {here : Here} {locals : Locals} (place : Place) (result : Result ValueTree RunFault) → IsAt first now here locals → IfOk result (IsKnown now) → IsSafe spec first now (value_or_fault place result locals)
+  pub safe-value_or_fault : {first now : List Entry} {here : Here} {locals : Locals} (place : Place) (result : Result ValueTree RunFault) → IsAt spec first now here locals → IfOk result (IsKnown spec now) → IsSafe spec first now (value_or_fault place result locals)
   safe-value_or_fault place (Ok v) is_at known = safe-value spec v is_at known
   safe-value_or_fault place (Err kind) is_at known = may-fail spec kind place is_at.may
 
-  pub safe-make : {first now : List Entry} {here : Here} {locals : Locals} (what : Strict) (place : Place) (vs : List ValueTree) → IsAt first now here locals → EachKnown now vs → IsSafe spec first now (make what place vs locals)
-  safe-make {now = now} what place vs is_at known = safe-value_or_fault place (made_of what vs) is_at (made_keeps (IsThere now) what vs known)
+  pub safe-make : {first now : List Entry} {here : Here} {locals : Locals} (what : Strict) (place : Place) (vs : List ValueTree) → IsAt spec first now here locals → EachKnown spec now vs → IsSafe spec first now (make what place vs locals)
+  safe-make {now = now} what place vs is_at known = safe-value_or_fault place (made_of what vs) is_at (made_keeps (IsThere spec now) what vs known)
 
   -- parts from left to right, and what is done with their values
-  pub safe-collected : (first now : List Entry) (here : Here) (place : Place) (trees : ExprTrees) (done : List ValueTree) (further : List ValueTree → Locals → Code) (locals : Locals) → IsAt first now here locals → EachKnown now done → GoesWith EachKnown spec first here now further → IsSafe spec first now (collected here place trees done further locals)
+  pub safe-collected : (first now : List Entry) (here : Here) (place : Place) (trees : ExprTrees) (done : List ValueTree) (further : List ValueTree → Locals → Code) (locals : Locals) → IsAt spec first now here locals → EachKnown spec now done → GoesWith (EachKnown spec) spec first here now further → IsSafe spec first now (collected here place trees done further locals)
   safe-collected first now here place no_exprs done further locals is_at known goes = goes now done locals (within-self now) is_at known
   safe-collected first now here place (one_expr tree trees) done further locals is_at known goes =
       safe-evaluated spec first now here locals tree place (λ v after. collected here place trees (done ++ v ∷ []) further after) is_at (λ later v after w at_later also.
-      safe-collected first later here place trees (done ++ v ∷ []) further after at_later (each_append (IsKnown later) done (v ∷ []) (values-on now later w done known) (also, tt))
-      (goes-later EachKnown spec first here now later further w goes))
+      safe-collected first later here place trees (done ++ v ∷ []) further after at_later (each_append (IsKnown spec later) done (v ∷ []) (values-on now later w done known) (also, tt))
+      (goes-later (EachKnown spec) spec first here now later further w goes))
 
-  pub safe-strict : (first now : List Entry) (here : Here) (what : Strict) (place : Place) (trees : ExprTrees) (locals : Locals) → IsAt first now here locals → IsSafe spec first now (strict here what place trees locals)
+  pub safe-strict : (first now : List Entry) (here : Here) (what : Strict) (place : Place) (trees : ExprTrees) (locals : Locals) → IsAt spec first now here locals → IsSafe spec first now (strict here what place trees locals)
   safe-strict first now here what place trees locals is_at =
       safe-collected first now here place trees [] (make what place) locals is_at tt (λ later vs after w at_later known. safe-make what place vs at_later known)

@@ -29,11 +29,11 @@ use Rattle.vdm_meaning.proofs.Loops.{safe-counted, safe-while_decided}
 use Rattle.vdm_meaning.proofs.Statements.{safe-statement}
 
 module _ (spec : SpecTree) where
-  safe-bare_call : (now : List Entry) (here : Here) (locals : Locals) (tree : ExprTree) → IsAt now now here locals → IsSafe spec now now (bare_call (of_thread spec) here locals tree)
+  safe-bare_call : (now : List Entry) (here : Here) (locals : Locals) (tree : ExprTree) → IsAt spec now now here locals → IsSafe spec now now (bare_call (of_thread spec) here locals tree)
   safe-bare_call now here locals (apply head arguments place) is_at = safe-application spec now now here head arguments place no_value locals is_at
   safe-bare_call now here locals tree is_at = may-fail spec TypeFault (expr_place tree) is_at.may
 
-  safe-round : (now : List Entry) (here : Here) (declared : Declared) (locals : Locals) (round : Round) → IsAt now now here locals → IsSafe spec now now (round_plan (of_thread spec) here declared locals round)
+  safe-round : (now : List Entry) (here : Here) (declared : Declared) (locals : Locals) (round : Round) → IsAt spec now now here locals → IsSafe spec now now (round_plan (of_thread spec) here declared locals round)
   safe-round now here declared locals (while_true condition body place) is_at =
       let further = on_truth place (while_decided here condition body place) in
       safe-bind spec now now (λ flow. among declared (with_value place further flow))
@@ -56,7 +56,7 @@ module _ (spec : SpecTree) where
       (λ later flow w leaves. safe-caught spec now here place later locals all count flow (at-later is_at w leaves.0) leaves.1)
       (stmt_plan spec here declared locals body) now (safe-statement spec now here now declared locals body is_at))
 
-  safe-node : (t : Task) (now : List Entry) → MayBegin now t → IsSafe spec now now (node_plan (of_thread spec) t)
+  safe-node : (t : Task) (now : List Entry) → MayBegin spec now t → IsSafe spec now now (node_plan (of_thread spec) t)
   safe-node (expr_in env tree) now h = safe-expr spec now now env.here env.locals (at-start h) tree
   safe-node (call_in env tree) now h = safe-bare_call now env.here env.locals tree (at-start h)
   safe-node (stmt_in env declared statement) now h =
@@ -64,10 +64,10 @@ module _ (spec : SpecTree) where
   safe-node (round_in env declared round) now h = safe-round now env.here declared env.locals round (at-start h)
 
   -- wherever its faults stand
-  safe-task : (t : Task) (now : List Entry) → MayBegin now t → IsSafe spec now now (plan_of (of_thread spec) t)
+  safe-task : (t : Task) (now : List Entry) → MayBegin spec now t → IsSafe spec now now (plan_of (of_thread spec) t)
   safe-task t now h = safe-placed spec now (env_of t).here.nest (node_plan (of_thread spec) t) now (safe-node t now h)
 
-  spent-fails : (t : Task) (now : List Entry) → MayBegin now t → MayFail spec now (spent t)
+  spent-fails : (t : Task) (now : List Entry) → MayBegin spec now t → MayFail spec now (spent t)
   spent-fails (expr_in env tree) now h = may-fail spec StepLimit (outermost env.here.nest.test (expr_place tree)) h
   spent-fails (call_in env tree) now h = may-fail spec StepLimit (outermost env.here.nest.test (expr_place tree)) h
   spent-fails (stmt_in env declared statement) now h = may-fail spec StepLimit (outermost env.here.nest.test (stmt_place statement)) h

@@ -11,16 +11,16 @@ use Rattle.run_journal.specs.Made.{made, Fits, answer_of}
 use Rattle.vdm_meaning.specs.Main.{Standing, asks, over, main_code}
 
 -- where a thread stands after its answers: so far main alone is born
-abbrev pub code_of : SpecTree → ExprTree → ℕ → Thread → List Answer → Standing
-code_of spec tree units Main answers = main_code spec tree units answers
-code_of spec tree units _ answers = over
+abbrev pub code_of : List (List ℕ) → SpecTree → ExprTree → ℕ → Thread → List Answer → Standing
+code_of names spec tree units Main answers = main_code names spec tree units answers
+code_of names spec tree units _ answers = over
 
 -- An entry is legal for a thread behind the thread's entries: it is made of the question that the thread's code needs
 -- after their answers, and of an answer that fits it. So nothing stands behind the thread's end or failure.
 pub record IsLegalForThread
-    (spec : SpecTree) (tree : ExprTree) (units : ℕ) (thread : Thread) (before : List Entry) (entry : Entry) : Type 0 where
+    (names : List (List ℕ)) (spec : SpecTree) (tree : ExprTree) (units : ℕ) (thread : Thread) (before : List Entry) (entry : Entry) : Type 0 where
   pub question : Question
   pub answer : Answer
-  pub asked : code_of spec tree units thread (map answer_of before) ≡ asks question
+  pub asked : code_of names spec tree units thread (map answer_of before) ≡ asks question
   pub fits : Fits question answer
   pub made_of : made thread question answer ≡ Some entry

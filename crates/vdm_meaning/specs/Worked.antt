@@ -165,9 +165,9 @@ said = said_first ++ said_for_the_object ++ said_for_inc 0 1 ++ said_for_inc 1 2
 
 -- main asks these questions in turn, where each is answered so, and then it is over
 abbrev pub AreSaid : SpecTree → ExprTree → ℕ → List Answer → List Said → Type 0
-AreSaid spec tree units answers [] = main_code spec tree units answers ≡ over
+AreSaid spec tree units answers [] = main_code [] spec tree units answers ≡ over
 AreSaid spec tree units answers (pair ∷ pairs) =
-    (main_code spec tree units answers ≡ asks pair.0) × AreSaid spec tree units (answers ++ pair.1 ∷ []) pairs
+    (main_code [] spec tree units answers ≡ asks pair.0) × AreSaid spec tree units (answers ++ pair.1 ∷ []) pairs
 
 -- the answers alone
 abbrev pub answers_in : List Said → List Answer

@@ -5,6 +5,7 @@ mod laws;
 
 pub use laws::{
     a_finished_run_exists, a_finished_run_has_one_end, an_unfinished_run_goes_on,
-    fronts_of_runs_are_runs, nothing_stands_behind_an_end, one_run, what_is_asked_is_ready,
-    worked_counter, worked_sums,
+    class_objects_come_first, fronts_of_runs_are_runs, nothing_stands_behind_an_end, one_run,
+    what_is_asked_is_ready, worked_calls, worked_counter, worked_invariants, worked_prints,
+    worked_sums,
 };

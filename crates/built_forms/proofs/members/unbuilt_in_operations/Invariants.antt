@@ -5,4 +5,4 @@ use Rattle.built_forms.proofs.members.unbuilt_in_operations.Given as goal
 
 -- the operations so far are built, so that the rest decides
 abbrev pub invariant-loop-operation : goal.invariant-loop-operation
-invariant-loop-operation l = unbuilt_in_operations l.class (map operation_view (drop l.operation-index l.operations)) ≡ unbuilt_in_operations l.class (map operation_view l.operations)
+invariant-loop-operation l = unbuilt_in_operations (map operation_view (drop l.operation-index l.operations)) ≡ unbuilt_in_operations (map operation_view l.operations)

@@ -3,7 +3,7 @@ use Rattle.eval_data.specs.Parts.{here_of}
 use Rattle.vdm_tree.specs.StmtView.{boxed_stmt, maybe_stmt}
 use Rattle.stmt_meaning.specs.Statements.{branch_taken, branches_of}
 use Rattle.step_data.specs.Parts.{branches_left}
-use Rattle.flow_steps.specs.Came.{truth_code}
+use Rattle.flow_values.specs.Came.{truth_code}
 use Rattle.flow_steps.proofs.branches.branch_decided.Goals as goal
 
 pub returns-in-Is-clause-same : goal.returns-in-Is-clause-same

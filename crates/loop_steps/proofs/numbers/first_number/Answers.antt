@@ -2,7 +2,7 @@ use Rattle.std.proofs.Common.{◌≡◌, ap, sym, ◌∙◌, rules, to_z, of_z}
 use Rattle.std.specs.Int.{w128}
 use Rattle.std.proofs.lemmas.Int.{to_z-of_z}
 use Rattle.step_data.specs.Actions.{behind_first}
-use Rattle.flow_steps.specs.Came.{number_code}
+use Rattle.flow_values.specs.Came.{number_code}
 use Rattle.loop_steps.proofs.numbers.first_number.Goals as goal
 
 pub returns-in-Is-clause-same : goal.returns-in-Is-clause-same

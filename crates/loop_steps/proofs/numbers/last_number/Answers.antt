@@ -3,7 +3,7 @@ use Rattle.std.specs.Int.{w128}
 use Rattle.std.proofs.lemmas.Int.{to_z-of_z}
 use Rattle.std.proofs.lemmas.Result.{IfOk-weaker}
 use Rattle.step_data.specs.Actions.{behind_last}
-use Rattle.flow_steps.specs.Came.{number_code}
+use Rattle.flow_values.specs.Came.{number_code}
 use Rattle.loop_steps.proofs.numbers.last_number.Goals as goal
 
 pub returns-in-Is-clause-same : goal.returns-in-Is-clause-same

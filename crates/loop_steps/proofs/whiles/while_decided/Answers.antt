@@ -3,7 +3,7 @@ use Rattle.expr_tree.specs.View.{boxed_view}
 use Rattle.vdm_tree.specs.StmtView.{boxed_stmt}
 use Rattle.stmt_meaning.specs.Loops.{while_decided}
 use Rattle.eval_data.specs.Parts.{here_of}
-use Rattle.flow_steps.specs.Came.{truth_code}
+use Rattle.flow_values.specs.Came.{truth_code}
 use Rattle.loop_steps.proofs.whiles.while_decided.Goals as goal
 
 pub returns-in-Is-clause-same : goal.returns-in-Is-clause-same

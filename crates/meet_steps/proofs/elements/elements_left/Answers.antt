@@ -1,4 +1,5 @@
-use Rattle.std.proofs.Common.{reverse, ap, ◌∙◌}
+use Rattle.std.proofs.Common.{Vec, Global, reverse, ap, ◌∙◌}
+use Rattle.abstract_syntax.specs.Values.{ValueTree}
 use Rattle.expr_tree.specs.View.{pattern_view}
 use Rattle.vdm_tree.specs.StmtView.{boxed_stmt}
 use Rattle.spec_table.specs.Tables.{table_spec}
@@ -13,6 +14,17 @@ pub returns-clause-same : goal.returns-clause-same
 returns-clause-same c =
     let spec = table_spec c.args.table.now in
     let locals = c.args.locals.now.items in
-    let left = λ (e : Elements). each_element spec (here_of e.here) e.place (pattern_view e.pattern.now) (boxed_stmt e.body.now) e.count (reverse e.values.items) locals in
-    moved spec c.followed.new.locals.items c.followed.result (onward_code spec locals c.element_behind-onward.result) (left c.args.elements.value)
-    c.followed.ensures.same (c.element_behind-onward.ensures.same spec locals ∙ ap left c.into_inner-count.ensures)
+    let e = c.args.elements.value in
+    let body = c.deref-4.result.now in
+    let count = c.deref-5.result.now in
+    let values = c.into_values-values.result in
+    let left = λ (h p m b n : Elements) (vs : Vec ValueTree Global). each_element spec (here_of h.here) p.place (pattern_view m.pattern.now) (boxed_stmt b.body.now) n.count (reverse vs.items) locals in
+    moved spec c.followed.new.locals.items c.followed.result (onward_code spec locals c.element_behind-onward.result) (left e e e e e e.values)
+    c.followed.ensures.same
+    (c.element_behind-onward.ensures.same spec locals
+    ∙ ap (λ (h : Elements). left h c.deref-2.result.now c.deref-3.result.now body count values) c.deref.ensures
+    ∙ ap (λ (p : Elements). left e p c.deref-3.result.now body count values) c.deref-2.ensures
+    ∙ ap (λ (m : Elements). left e e m body count values) c.deref-3.ensures
+    ∙ ap (λ (b : Elements). left e e e b count values) c.deref-4.ensures
+    ∙ ap (λ (n : Elements). left e e e e n values) c.deref-5.ensures
+    ∙ ap (left e e e e e) (c.into_values-values.ensures ∙ ap (λ (x : Elements). x.values) c.into_inner.ensures))

@@ -1,6 +1,8 @@
-use Rattle.std.proofs.Common.{ap, ◌∙◌}
+use Rattle.std.proofs.Common.{Vec, Global, ap, ◌∙◌}
+use Rattle.abstract_syntax.specs.Values.{ValueTree}
 use Rattle.spec_table.specs.Tables.{table_spec}
 use Rattle.step_data.specs.declared.meeting.Given.{Given}
+use Rattle.step_data.specs.declared.meeting.Meeting.{Meeting}
 use Rattle.step_data.specs.Meetings.{met_value}
 use Rattle.meet_steps.specs.Onwards.{onward_code}
 use Rattle.meet_steps.proofs.Moving.{moved}
@@ -13,4 +15,6 @@ returns-clause-same c =
     let g = c.args.given.value in
     moved spec c.followed.new.locals.items c.followed.result (onward_code spec c.met.new.locals.items c.in_ok-onward.onward) (met_value spec g.meeting g.given.items locals)
     c.followed.ensures.same
-    (c.in_ok-onward.ensures.same ∙ ap (λ (h : Given). met_value spec h.meeting h.given.items locals) c.into_inner-meeting.ensures)
+    (c.in_ok-onward.ensures.same
+    ∙ ap (λ (p : Meeting × Vec ValueTree Global). met_value spec p.0 p.1.items locals) c.into_parts-meeting.ensures
+    ∙ ap (λ (h : Given). met_value spec h.meeting h.given.items locals) c.into_inner.ensures)

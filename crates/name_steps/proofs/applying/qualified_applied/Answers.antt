@@ -1,12 +1,12 @@
 use Rattle.std.proofs.Common.{◌∙◌}
 use Rattle.expr_tree.specs.View.{boxed_view, expr_trees, views_of}
-use Rattle.spec_table.specs.Tables.{table_spec}
 use Rattle.eval_data.specs.Parts.{here_of, wanted_of}
+use Rattle.name_steps.specs.Settings.{set}
 use Rattle.name_steps.proofs.Plans.{if_ok, qualified_by_count}
 use Rattle.name_steps.proofs.applying.qualified_applied.Goals as goal
 
 pub returns : goal.returns
-returns c = if_ok c.applied_or_called.result c.applied_or_called.ensures (λ s plan setting is locals.
-    plan setting locals ∙
-    qualified_by_count setting (table_spec c.args.table.now) is (here_of c.args.here) (boxed_view c.args.head.now) (expr_trees (views_of c.args.arguments.now))
+returns c = if_ok c.applied_or_called.result c.applied_or_called.ensures (λ s plan asker locals.
+    plan asker locals ∙
+    qualified_by_count (set c.args.table.now asker) (here_of c.args.here) (boxed_view c.args.head.now) (expr_trees (views_of c.args.arguments.now.items))
     c.args.place (wanted_of c.args.wanted) locals c.args.class c.args.name _ _ _ c.in_ok-count.ensures c.function_in-function.ensures c.operation_in-op.ensures)

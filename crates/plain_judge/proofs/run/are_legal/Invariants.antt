@@ -11,6 +11,6 @@ use Rattle.plain_judge.proofs.run.are_legal.Given as goal
 -- the entries so far are legal, so that the rest decides, and the machine stands where main stands behind them
 abbrev pub invariant-loop-index : goal.invariant-loop-index
 invariant-loop-index l = record {
-  legal : AreLegal (table_spec l.table) (view_of l.tree) l.units (take l.index l.entries) (drop l.index l.entries) ↔ IsRun (table_spec l.table) (view_of l.tree) l.units l.entries;
-  stands : (answers : List Answer) → rest l.machine answers ≡ main_code (table_spec l.table) (view_of l.tree) l.units (main_answers (take l.index l.entries) ++ answers);
+  legal : AreLegal l.names (table_spec l.table) (view_of l.tree) l.units (take l.index l.entries) (drop l.index l.entries) ↔ IsRun l.names (table_spec l.table) (view_of l.tree) l.units l.entries;
+  stands : (answers : List Answer) → rest l.machine answers ≡ main_code l.names (table_spec l.table) (view_of l.tree) l.units (main_answers (take l.index l.entries) ++ answers);
 }

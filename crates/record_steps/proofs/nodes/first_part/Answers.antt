@@ -14,4 +14,4 @@ returns c = λ setting locals.
     let here = here_of c.args.here in
     ap (λ (k : Flow → Code). part (expr_in (at here locals) (view_of c.args.tree.now)) k)
     (c.in_ok-frame.ensures setting
-    ∙ ap (λ (vs : List ValueTree). with_value c.args.place (with_others here c.args.place (parts_of c.args.rest) vs (then_of setting.spec c.args.then here c.args.place))) c.new.ensures.items)
+    ∙ ap (λ (vs : List ValueTree). with_value c.args.place (with_others here c.args.place (parts_of c.args.rest) vs (then_of setting c.args.then here c.args.place))) c.new.ensures.items)

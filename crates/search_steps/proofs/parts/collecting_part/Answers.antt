@@ -11,5 +11,5 @@ use Rattle.search_steps.proofs.parts.collecting_part.Goals as goal
 pub returns : goal.returns
 returns c = λ setting locals.
     c.part_of.ensures setting locals
-    ∙ ap (λ (x : Collecting). part (expr_in (at (here_of c.args.here) locals) (boxed_view c.args.first.now)) (with_value c.args.place (collect setting.spec x)))
+    ∙ ap (λ (x : Collecting). part (expr_in (at (here_of c.args.here) locals) (boxed_view c.args.first.now)) (with_value c.args.place (collect setting x)))
     c.in_ok-new.ensures.ok

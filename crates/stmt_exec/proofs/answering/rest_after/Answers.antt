@@ -4,10 +4,10 @@ use Rattle.stmt_exec.proofs.Resting.{failed, exit_failed, goes_on}
 use Rattle.stmt_exec.proofs.answering.rest_after.Goals as goal
 
 pub returns-in-Fails-clause-same : goal.returns-in-Fails-clause-same
-returns-in-Fails-clause-same c = λ answers. failed c.args.stack.now c.args.rest _ _ c.args.answer answers c.in-Fails.is
+returns-in-Fails-clause-same c = λ names answers. failed names c.args.stack.now c.args.rest _ _ c.args.answer answers c.in-Fails.is
 
 pub returns-in-Exits-clause-same : goal.returns-in-Exits-clause-same
-returns-in-Exits-clause-same c = λ answers. exit_failed c.args.stack.now c.args.rest _ _ c.args.answer answers c.in-Exits.is
+returns-in-Exits-clause-same c = λ names answers. exit_failed names c.args.stack.now c.args.rest _ _ c.args.answer answers c.in-Exits.is
 
 pub returns-in_ok-action-in-Asks-clause-same : goal.returns-in_ok-action-in-Asks-clause-same
 returns-in_ok-action-in-Asks-clause-same c =

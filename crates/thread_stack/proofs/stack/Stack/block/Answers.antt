@@ -1,6 +1,5 @@
 use Rattle.std.proofs.Common.{refl, ◌∙◌, ap}
 use Rattle.std.specs.Prelude.{map}
-use Rattle.abstract_syntax.specs.Classes.{SpecTree}
 use Rattle.vdm_tree.specs.StmtView.{dcl_view}
 use Rattle.node_meaning.specs.Tasks.{Code}
 use Rattle.stmt_meaning.specs.Blocks.{types_declared}

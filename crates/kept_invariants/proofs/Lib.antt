@@ -1,0 +1,6 @@
+mod Conditions
+mod Lines
+pub mod NoneToKeep
+mod Rounds
+mod Verdicts
+mod Walking
