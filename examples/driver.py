@@ -17,9 +17,6 @@ by its two hexadecimal digits. Entries, questions and answers have `; ` between 
     question    the number of an object, and the deed that it leads to, in which what answers it may be left out, as in
                 2 read C`x
     answer      one of: done, object 2, slot ?, refused, inner 103, host = 1, host refused, ticks 41
-    SPEC        the text of a specification, or none; behind `unset ` the last variable has no value at first,
-                and behind `apart ` each variable stands in a block of its own, behind an empty block of operations
-    EXPR        the text of an expression, or behind `tree ` its tree
 
 These are the deeds, as the log writes them:
 
@@ -30,16 +27,7 @@ These are the deeds, as the log writes them:
     release 0               end                     end 1                   fail 101 expr 1:41
                                                                             fail 113 1 spec 6:36
 
-And these are the nodes of a tree, which stand behind their parts, with one blank between each two:
-
-    7@1:1                   a literal at its place
-    name n@1:1              a name
-    +@1:3                   the sum of the two trees before it
-    apply 1@1:2             an application to the one argument right before it, of the tree before that
-    new C@1:5 0@1:1         a new object, with so many arguments before it; the name of its class stands at 1:5
-    select f@1:10@1:9       the member of the tree before it; its name stands at 1:10
-
-A pattern is written likewise, with no places:
+A pattern is written as its nodes, which stand behind their parts, with one blank between each two:
 
     -                       any value
     name a                  a name
@@ -93,15 +81,6 @@ These are the instructions:
     answer done   answer object N   answer refused   answer inner N   answer ticks N
     answer slot                        with the last slot
     answer given   answer host-refused   of a host function: the last value, or none
-    spec TEXT                          reads a specification, which has to be one
-    no-initial                         the last variable of its first block has no value at first
-    blocks-apart                       each variable gets a block of its own, behind an empty block of operations
-    expr TEXT                          reads an expression behind the specification
-    tree whole INT SPOT   tree name NAME SPOT
-    tree plus SPOT                     of the last two trees
-    tree apply K SPOT                  of the tree before the last K, with these as arguments
-    tree new NAME SPOT K SPOT          of the last K trees; the first spot is that of the name
-    tree select NAME SPOT SPOT         of the last tree; the first spot is that of the name
     pattern any   pattern name NAME   pattern given   pattern empty-map
     pattern literal int INT            pattern literal char N            pattern literal quote NAME
     pattern literal true   pattern literal false   pattern literal nil
@@ -117,14 +96,12 @@ These are the instructions:
     same-type NAME NAME plain alone NAME                 likewise, with a type above it that it is; `bracketed` where that
                                        stands in brackets, and `of NAME` for `alone` where it stands behind its class
 
-A line declares a name once, where the notation first has it, and so behind a specification or expression that comes
-before. `held` alone declares its two names once more, at the end, so that it is told which they are.
+A line declares a name once, where the notation first has it.
 
 **Answers.** They are as in the rows, but for what is shown as by Rust's `{:?}`: a value, a slot, an entry, an answer, a
-place, a thread, a tree or a specification, between two tabs. No tab stands elsewhere. A name is shown by its number, as
-`Name(5)`. So an answer to instructions, and to `spec` and `expr`, has a last tab, and behind it the texts of all names
-in order, each behind a blank: there are names where the tabs make an even number of pieces. A line that the driver
-cannot read is answered by `unreadable`.
+place or a thread, between two tabs. No tab stands elsewhere. A name is shown by its number, as `Name(5)`. So an answer to
+instructions has a last tab, and behind it the texts of all names in order, each behind a blank: there are names where the
+tabs make an even number of pieces. A line that the driver cannot read is answered by `unreadable`.
 """
 import re
 
@@ -134,14 +111,11 @@ from shown import notation_of
 __all__ = ["BadRequest", "notation_of", "words_for"]
 
 MANY = 1_000_000
-# What changes a specification once it is read, by the word before its text.
-CHANGES = {"unset": "no-initial", "apart": "blocks-apart"}
 # What may stand behind the text of a request on a table of classes.
 MEMBER, MAYBE = re.compile(r"[\w']+"), re.compile(r"-|[\w']+")
 FLAGS = re.compile(r"-|[a-z]+(,[a-z]+)*")
 COUNT, LEVEL = re.compile(r"[0-9]+"), re.compile(r"private|protected|public")
 OPERATION = [MEMBER, MEMBER, COUNT]
-STREAMS = re.compile(r"([0-9]+) (-|[0-9,]+), ([0-9]+) ([0-9]+) (-|[0-9,]+)")
 
 
 def words_for(request):
@@ -193,7 +167,7 @@ def lexed(line, asked):
 
 
 def text(line, asked):
-    """spec TEXT, accepts TEXT, specification TEXT, classes TEXT"""
+    """specification TEXT, classes TEXT"""
     line.put(word_of(asked))
 
 
@@ -254,15 +228,6 @@ def put_asked(line, asked, kinds):
     if len(words) != len(kinds) or not all(kind.fullmatch(it) for kind, it in zip(kinds, words)):
         raise BadRequest(f"'{asked[:QUOTED]}' is not what this request wants behind its text")
     line.put(*words)
-
-
-def main(line, asked):
-    """main PIECE FAILS, ROOM PIECE FAILS %| SPEC %| WORD %| .., where SPEC and WORD are texts or none"""
-    streams, *texts = parts_of(asked, 2, MANY)
-    found = STREAMS.fullmatch(streams)
-    if not found:
-        raise BadRequest(f"'{streams}' are no streams, as in '4096 -, 1000 64 2,3'")
-    line.put(*found.groups(), *(word_of(text_or_none(it)) for it in texts))
 
 
 def time(line, asked):
@@ -351,7 +316,7 @@ def bindings(line, asked):
 
 
 def entries(line, asked):
-    """entries ENTRIES, finish ENTRIES"""
+    """entries ENTRIES"""
     read_each(line, asked, Reader.entry)
 
 
@@ -423,114 +388,16 @@ def report(line, asked):
     entries(line, others)
 
 
-# Specifications, expressions and runs.
-
-
-def specification(line, text):
-    changes = CHANGES.get(text.partition(" ")[0])
-    if changes:
-        line.put("spec", word_of(text.partition(" ")[2]), changes)
-    else:
-        line.put("spec", word_of(text_or_none(text)))
-
-
-def expression(line, text):
-    if text.startswith("tree "):
-        tree(line, text.removeprefix("tree "))
-    else:
-        line.put("expr", word_of(text))
-
-
-def tree(line, asked):
-    """tree TREE"""
-    read(line, asked, Reader.tree)
-
-
-def expr(line, asked):
-    """expr SPEC %| TEXT"""
-    spec, text = parts_of(asked, 2, 2)
-    line.put(word_of(text))
-    specification(line, spec)
-
-
-def terms(line, asked):
-    """terms SPEC %| EXPR"""
-    spec, text = parts_of(asked, 2, 2)
-    specification(line, spec)
-    expression(line, text)
-
-
-def case(line, units, spec, text):
-    number(line, units)
-    specification(line, spec)
-    expression(line, text)
-
-
-def run(line, asked):
-    """run UNITS %| SPEC %| EXPR, calls UNITS %| SPEC %| EXPR"""
-    case(line, *parts_of(asked, 3, 3))
-
-
-def judge(line, asked):
-    """judge UNITS %| SPEC %| EXPR %| ENTRIES"""
-    *before, others = parts_of(asked, 4, 4)
-    case(line, *before)
-    entries(line, others)
-
-
-def play(line, asked):
-    """play UNITS %| SPEC %| EXPR %| ANSWERS"""
-    *before, others = parts_of(asked, 4, 4)
-    case(line, *before)
-    answers(line, others)
-
-
-def asks(line, asked):
-    """asks UNITS %| SPEC %| EXPR %| ANSWERS %| ANSWER"""
-    *before, others, last = parts_of(asked, 5, 5)
-    case(line, *before)
-    answers(line, others)
-    read(line, last, Reader.answer)
-
-
-def ordered(line, asked):
-    """ordered SPEC %| ENTRIES"""
-    spec, others = parts_of(asked, 2, 2)
-    specification(line, spec)
-    entries(line, others)
-
-
-def store(line, asked):
-    """store SPEC %| QUESTION; QUESTION .."""
-    spec, questions = parts_of(asked, 2, 2)
-    specification(line, spec)
-    read_each(line, questions, Reader.question)
-
-
-def held(line, asked):
-    """held SPEC %| N VARIABLE, held SPEC %| N VARIABLE %| ENTRIES"""
-    spec, whose, *others = parts_of(asked, 2, 3)
-    index, _, variable = whose.partition(" ")
-    number(line, index)
-    specification(line, spec)
-    read(line, variable, Reader.variable)
-    for it in others:
-        entries(line, it)
-    for it in variable.split("`"):
-        line.declare(it)
-
-
 REQUESTS = {
     **dict.fromkeys(["take", "refusal", "fault"], number),
     "names": names,
     "name": name,
     **dict.fromkeys(["lex", "places", "type", "pattern", "expression", "statement"], lexed),
-    **dict.fromkeys(["spec", "accepts", "specification", "classes"], text),
+    **dict.fromkeys(["specification", "classes"], text),
     "cuts": cuts,
     **dict.fromkeys(ASKED, table),
     "hosted": hosted,
     "check": check,
-    "main": main,
     "time": time,
     **dict.fromkeys(["order", "rising", "apart", "same", "taken", "size", "value", "part"], values),
     **dict.fromkeys(["unary", "binary", "unary-size", "binary-size"], operator),
@@ -541,7 +408,7 @@ REQUESTS = {
     "slot": slot,
     "bind": bind,
     "bindings": bindings,
-    **dict.fromkeys(["entries", "finish"], entries),
+    "entries": entries,
     "answers": answers,
     "made": made,
     "of": entries_of,
@@ -552,14 +419,4 @@ REQUESTS = {
     "same-deed": same_deed,
     "line": log_line,
     "report": report,
-    "tree": tree,
-    "expr": expr,
-    "terms": terms,
-    **dict.fromkeys(["run", "calls"], run),
-    "judge": judge,
-    "play": play,
-    "asks": asks,
-    "ordered": ordered,
-    "store": store,
-    "held": held,
 }

@@ -3,13 +3,11 @@ import re
 
 NAME = re.compile(r"[A-Za-z0-9_]+|\#[0-9]+")
 NUMBER = re.compile(r"[0-9]+")
-INTEGER = re.compile(r"-?[0-9]+")
 WORD = re.compile(r"[A-Za-z0-9_]+")
 KIND = re.compile(r"[a-z]+(?:-[a-z]+)?")
 SPOT = re.compile(r"([0-9]+):([0-9]+)")
 PART = re.compile(r"spec|expr")
 THREAD = re.compile(r"(main|clock)|t([0-9]+)|r([0-9]+)\.([0-9]+)")
-NODE = re.compile(r"\+|[a-z]+ |")
 # What a node of a pattern begins with: a literal with nothing, a text with its first sign.
 PATTERN_NODE = re.compile(r"\{\|->\}|\|->|-(?![0-9])|\^ |given\b|(?:name|set|seq|tuple|map|record) |\"|")
 TEXT = re.compile(r"[^\"]*\"")
@@ -362,43 +360,6 @@ class Reader:
             case _:
                 self.fail()
 
-    # Trees.
-
-    def tree(self):
-        self.node()
-        while self.takes(" "):
-            self.node()
-
-    def node(self):
-        kind = self.found(NODE)[0].strip()
-        if kind not in NODES:
-            self.fail()
-        self.line.put("tree", *NODES[kind](self))
-
-    def at(self):
-        self.expect("@")
-        return self.spot()
-
-    def whole(self):
-        return "whole", self.found(INTEGER)[0], *self.at()
-
-    def plus(self):
-        return "plus", *self.at()
-
-    def named(self):
-        return "name", self.name(), *self.at()
-
-    def apply(self):
-        return "apply", self.number(), *self.at()
-
-    def new(self):
-        name, place = self.name(), self.at()
-        self.expect(" ")
-        return "new", name, *place, self.number(), *self.at()
-
-    def select(self):
-        return "select", self.name(), *self.at(), *self.at()
-
     # Patterns.
 
     def pattern(self):
@@ -487,14 +448,6 @@ DEEDS = {
     "release": Reader.release,
     "end": Reader.over,
     "fail": Reader.failure,
-}
-NODES = {
-    "": Reader.whole,
-    "+": Reader.plus,
-    "name": Reader.named,
-    "apply": Reader.apply,
-    "new": Reader.new,
-    "select": Reader.select,
 }
 PATTERN_NODES = {
     "": Reader.literal,

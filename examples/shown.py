@@ -27,9 +27,6 @@ FAULTS = """
     HostRefused NoReturn ExponentRange
 """.split()
 FIRST_FAULT = 101
-SIGNS = {"Plus": "+"}
-# Where no place of a tree may be: a specification has none of the expression, and the other way round.
-OTHER_PARTS = {"Spec": "Expr", **dict.fromkeys(["Whole", "Name", "Infix", "Apply", "New", "Select"], "Spec")}
 
 
 class BadAnswer(ValueError):
@@ -50,12 +47,7 @@ def notation_of(answer):
 
 def notation_of_shown(text, names):
     node = data_of(text, names)
-    head, _ = node
-    if f"part: {OTHER_PARTS.get(head)}" in text:
-        raise BadAnswer(f"a place of another text stands in {head}")
-    # The names of a specification are told before it.
-    told = "".join(f"{it} " for it in names) + "%|" if head == "Spec" else ""
-    return told + written(SHOWN[head], node)
+    return written(SHOWN[node[0]], node)
 
 
 def data_of(text, names):
@@ -194,10 +186,6 @@ def place(node):
     return [f"{part.lower()} {spot(node)}"]
 
 
-def at(node):
-    return f"@{spot(node)}"
-
-
 def variable(node):
     _, [owner, name] = node
     return f"{owner}`{name}"
@@ -281,107 +269,12 @@ ANSWERS = {
 }
 
 
-# Trees: each node stands behind its parts, and between two stands a blank.
-
-
-def before(nodes, write=None):
-    """Returns the pieces of the parts that stand before a node, trees where nothing else is said."""
-    return [piece for it in nodes for piece in ((write or tree, it), " ")]
-
-
-def operator_sign(operator):
-    name, _ = operator
-    return SIGNS[name]
-
-
-def optional(node):
-    """Returns a list of the one part of `Some(..)`, or of none."""
-    return {"Some": lambda it: [it], "None": lambda: []}[node[0]](*node[1])
-
-
-TREES = {
-    "Whole": lambda number, where: [f"{number}{at(where)}"],
-    "Name": lambda name, where: [f"name {name}{at(where)}"],
-    "Infix": lambda left, operator, right, where: [*before([left, right]), operator_sign(operator) + at(where)],
-    "Apply": lambda head, given, where: [*before([head, *given]), f"apply {len(given)}{at(where)}"],
-    "New": lambda owner, owner_at, given, where: [
-        *before(given),
-        f"new {owner}{at(owner_at)} {len(given)}{at(where)}",
-    ],
-    "Select": lambda target, name, name_at, where: [
-        *before([target]),
-        f"select {name}{at(name_at)}{at(where)}",
-    ],
-}
-tree = by_name(TREES)
-
-
-def local(node):
-    raise BadAnswer("no text makes a local variable so far")
-
-
-def target_text(target):
-    head, [name, where] = target
-    return {"Name": f"{name}{at(where)}"}[head]
-
-
-STATEMENTS = {
-    "Assign": lambda target, assigned, where: [*before([assigned]), f"assign {target_text(target)}{at(where)}"],
-    "Call": lambda called, where: [*before([called]), f"call{at(where)}"],
-    "Block": lambda declared, inner, where: [
-        *before(declared, local),
-        *before(inner, statement),
-        f"block {len(inner)}{at(where)}",
-    ],
-    "Return": lambda given, where: [*before(optional(given)), f"return{at(where)}"],
-}
-statement = by_name(STATEMENTS)
-
-
-# Specifications: each definition has its name with its place, its own place, and its parts.
-
-
-def spec(node):
-    return [(class_def, it) for it in items(node)]
-
-
-def class_def(node):
-    _, [name, name_at, blocks, where] = node
-    return [f" class {name}{at(name_at)}{at(where)}", *((block, it) for it in blocks)]
-
-
-BLOCKS = {
-    "Variables": lambda nodes, where: [f" variables{at(where)}", *((variable_def, it) for it in nodes)],
-    "Operations": lambda nodes, where: [f" operations{at(where)}", *((operation_def, it) for it in nodes)],
-}
-block = by_name(BLOCKS)
-TYPES = {
-    it: lambda where, word=it.lower(): [f" : {word}{at(where)}"]
-    for it in ("Nat", "Nat1", "Int", "Bool", "Char")
-}
-type_expr = by_name(TYPES)
-
-
-def variable_def(node):
-    _, [_, name, name_at, declared, initial, where] = node
-    given = [piece for it in optional(initial) for piece in (" := ", (tree, it))]
-    return [f" {name}{at(name_at)}{at(where)}", (type_expr, declared), *given]
-
-
-def operation_def(node):
-    _, [_, name, name_at, result, body, where] = node
-    declared = [(type_expr, it) for it in optional(result)]
-    return [f" {name}{at(name_at)}{at(where)}", *declared, " == ", (statement, body)]
-
-
 # What an answer shows as a whole. An object is an answer here: as a value it stands in `Value { .. }`.
 SHOWN = {
     "Value": value,
     "Entry": entry,
-    "Spec": spec,
     "Place": place,
     **dict.fromkeys(THREADS, thread),
     **dict.fromkeys(SLOTS, slot),
     **dict.fromkeys(ANSWERS, by_name(ANSWERS)),
-    **dict.fromkeys(TREES, tree),
 }

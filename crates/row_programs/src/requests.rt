@@ -1,6 +1,6 @@
 // One line after another, and which library answers it.
 
-use row_runs::handed::row_trees::TreeDesk;
+use row_desk::Desk;
 use row_words::Line;
 use std::alloc::Global;
 use std::io::{self, BufRead, BufReader, BufWriter, ErrorKind, Write};
@@ -42,7 +42,6 @@ fn write_answer<R: Clock, O: Write>(
 fn answer<R: Clock>(rt: &R, line: &mut Line<'_>) {
     match line.word() {
         "time" => answer_time(rt, line),
-        "main" => row_calls::answer(line),
         "check" => row_checks::answer(rt, line),
         word => answer_over_desk(line, word),
     }
@@ -62,25 +61,23 @@ fn answer_time<R: Clock>(rt: &R, line: &mut Line<'_>) {
 
 fn answer_over_desk(line: &mut Line<'_>, word: &str) {
     match Names::new(line.alloc()) {
-        Ok(names) => answer_by(&mut TreeDesk::new(line.alloc(), names), line, word),
+        Ok(names) => answer_by(&mut Desk::new(line.alloc(), names), line, word),
         Err(_) => line.fall_short(),
     }
 }
 
 // By the first library whose word it is.
-fn answer_by(desk: &mut TreeDesk, line: &mut Line<'_>, word: &str) {
-    let is_answered = row_values::answer(&mut desk.plain, line, word)
-        || row_operators::answer(&mut desk.plain, line, word)
+fn answer_by(desk: &mut Desk, line: &mut Line<'_>, word: &str) {
+    let is_answered = row_values::answer(desk, line, word)
+        || row_operators::answer(desk, line, word)
         || row_comparisons::answer(line, word)
-        || row_lists::answer(&mut desk.plain, line, word)
-        || row_patterns::answer(&mut desk.plain, line, word)
-        || row_bindings::answer(&mut desk.plain, line, word)
-        || row_logs::answer(&mut desk.plain, line, word)
-        || row_runs::answer(desk, line, word)
-        || row_machines::answer(desk, line, word)
-        || row_grammar::answer(&mut desk.plain.names, line, word)
-        || row_classes::answer(&mut desk.plain.names, line, word)
-        || row_tables::answer(&mut desk.plain.names, line, word);
+        || row_lists::answer(desk, line, word)
+        || row_patterns::answer(desk, line, word)
+        || row_bindings::answer(desk, line, word)
+        || row_logs::answer(desk, line, word)
+        || row_grammar::answer(&mut desk.names, line, word)
+        || row_classes::answer(&mut desk.names, line, word)
+        || row_tables::answer(&mut desk.names, line, word);
     if !is_answered {
         line.refuse();
     }

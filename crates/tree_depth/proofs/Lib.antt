@@ -1,3 +1,0 @@
-pub mod Groups
-pub mod Lists
-pub mod Reaching

@@ -1,6 +1,0 @@
-//! What the tests of trees share.
-#![tactic(auto)]
-
-mod helpers;
-
-pub use helpers::{any_value, at, leaf, one, type_name};
